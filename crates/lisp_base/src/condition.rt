@@ -1,0 +1,12 @@
+/// The classes of conditions.
+#[derive(Clone, Copy, Debug, PartialEq, Eq)]
+pub enum Class {
+    TypeError,
+    IntegerRange,
+}
+
+/// A condition.
+#[derive(Clone, Copy, Debug, PartialEq, Eq)]
+pub struct Condition {
+    pub class: Class,
+}

@@ -1,0 +1,71 @@
+ghost use Rattle.std.specs.Prelude.{◌≡◌, ◌↔◌, ℕ, true, false, Bool, IsTrue, IsSome, IfSome};
+ghost use Rattle.lisp_base.specs.Value.{is_in_range};
+
+use crate::id::SymbolId;
+use std::marker::Model;
+
+/// What a value is made of.
+#[derive(Clone, Copy, Debug, PartialEq, Eq)]
+pub enum Node {
+    Int(i64),
+    Symbol(SymbolId),
+}
+
+/// A value: a node in range. It has no parts, and is copied wherever it goes.
+#[derive(Clone, Copy, Debug, PartialEq, Eq)]
+pub struct Value {
+    node: Node,
+}
+
+impl Model for Value {
+    ghost use Rattle.lisp_base.specs.declared.value.Node.{Node};
+
+    ghost Value = { Node };
+
+    ghost use Rattle.std.specs.Prelude.{IsTrue};
+    ghost use Rattle.lisp_base.specs.Value.{is_in_range};
+
+    ghost view = { λ v. v.node };
+
+    ghost invariant = { λ v. IsTrue (is_in_range v.node) };
+
+    ghost inverse = { λ n. record { node = n } };
+}
+
+/// The greatest integer; the least is one further below zero.
+const GREATEST: i64 = (1 << 62) - 1;
+
+impl Value {
+    /// The value of a node: `None` exactly where the node is not in range.
+    pub fn of(node: Node) -> Option<Value>
+        ensures given { IsSome result ↔ IsTrue (is_in_range node) }
+        ensures same { IfSome result (λ v. v ≡ node) }
+    {
+        match node {
+            Node::Int(number) => {
+                if number < -GREATEST - 1 || number > GREATEST {
+                    return None;
+                }
+                Some(Value { node })
+            }
+            Node::Symbol(_) => Some(Value { node }),
+        }
+    }
+
+    /// Its node, which is in range.
+    pub fn node(self) -> Node
+        ensures same { result ≡ self }
+        ensures in_range { IsTrue (is_in_range result) }
+    {
+        self.node
+    }
+
+    /// NIL, which is also what is false.
+    pub fn nil() -> Value
+        ensures { result ≡ Node.Symbol 0 }
+    {
+        Value {
+            node: Node::Symbol(SymbolId::nil()),
+        }
+    }
+}
