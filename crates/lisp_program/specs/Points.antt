@@ -1,0 +1,59 @@
+-- The points of each form, in order.
+use Rattle.std.specs.Prelude.{ℕ, List, [], ◌∷◌}
+use Rattle.lisp_base.specs.Forest.{Forest, NoTrees, Tree}
+use Rattle.lisp_base.specs.declared.value.Node.{Node}
+use Rattle.lisp_base.specs.declared.value.Node.TheVariants.{Symbol}
+use Rattle.lisp_program.specs.declared.act.Act.{Act}
+use Rattle.lisp_program.specs.declared.act.Act.TheVariants.{Push, Discard, Add}
+use Rattle.lisp_program.specs.declared.act.Question.{Question}
+use Rattle.lisp_program.specs.declared.act.Question.TheVariants.{Print as AskPrint, EndThread}
+use Rattle.lisp_program.specs.declared.form.CoreKind.{CoreKind}
+use Rattle.lisp_program.specs.declared.form.CoreKind.TheVariants.{Constant, Plus, Print}
+use Rattle.lisp_program.specs.Forms.{Forms}
+
+-- NIL is the symbol 0
+abbrev pub nil : Node
+nil = Symbol 0
+
+-- What a thread has still to do in a stretch: nothing more, or one point and what comes after it. A point
+-- has the place of the form that it belongs to.
+pub data Points : Type 0 where
+  Done : Points
+  Do : (act : Act) (place : ℕ) (after : Points) → Points
+  Ask : (question : Question) (place : ℕ) (after : Points) → Points
+
+-- these points, and then those
+abbrev pub joined : Points → Points → Points
+joined Done after = after
+joined (Do a p rest) after = Do a p (joined rest after)
+joined (Ask q p rest) after = Ask q p (joined rest after)
+
+-- the points of each in turn
+abbrev pub all_of : List Points → Points
+all_of [] = Done
+all_of (f ∷ fs) = joined f (all_of fs)
+
+-- A body gives the value of its last form. Between two of its forms one point forgets the value of the
+-- first. An empty body is the constant NIL.
+abbrev pub body_of : ℕ → List Points → Points
+body_of p [] = Do (Push nil) p Done
+body_of p (f ∷ []) = f
+body_of p (f ∷ (g ∷ fs)) = joined f (Do Discard p (body_of p (g ∷ fs)))
+
+-- the points of a form of this kind at this place, from the points of the forms under it
+abbrev pub table : CoreKind → ℕ → List Points → Points
+-- a constant is 1 point
+table (Constant v) p fs = Do (Push v) p Done
+-- a sum: its arguments, and 1 point
+table Plus p fs = joined (all_of fs) (Do Add p Done)
+-- `print`: its argument, and the operation `out`
+table Print p fs = joined (all_of fs) (Ask AskPrint p Done)
+
+-- the points of each form
+abbrev pub points_of : Forms → List Points
+points_of NoTrees = []
+points_of (Tree k p under beside) = table k p (points_of under) ∷ points_of beside
+
+-- main evaluates the top-level forms as a body, and ends
+abbrev pub main_points : Forms → Points
+main_points f = joined (body_of 0 (points_of f)) (Ask EndThread 0 Done)

@@ -1,0 +1,52 @@
+ghost use Rattle.std.specs.Prelude.{◌≡◌};
+
+use lisp_base::id::Place;
+use lisp_base::value::Value;
+use std::marker::Model;
+
+/// The kinds of core forms.
+#[derive(Clone, Copy, Debug, PartialEq, Eq)]
+pub enum CoreKind {
+    Constant(Value),
+    Plus,
+    Print,
+}
+
+/// One form of a program in preorder: its kind, its place, and how many forms stand directly under it.
+#[derive(Clone, Copy, Debug, PartialEq, Eq)]
+pub struct FormNode {
+    pub kind: CoreKind,
+    pub place: Place,
+    pub parts: u32,
+}
+
+/// A program: its top-level forms with the forms under them, in preorder. Contracts see the list of nodes.
+#[derive(Debug, Drop)]
+pub struct Program {
+    nodes: Vec<FormNode>,
+}
+
+impl Model for Program {
+    ghost use Rattle.std.specs.Prelude.{List};
+    ghost use Rattle.lisp_program.specs.declared.form.FormNode.{FormNode};
+
+    ghost Value = { List FormNode };
+
+    ghost view = { λ p. p.nodes.items };
+}
+
+impl Program {
+    /// The program of these nodes. It takes no memory.
+    pub fn of(nodes: Vec<FormNode>) -> Self
+        ensures { result ≡ nodes.items }
+    {
+        Program { nodes }
+    }
+
+    /// Its nodes, in preorder.
+    pub fn nodes(&self) -> &[FormNode]
+        ensures { result.now ≡ self.now }
+    {
+        self.nodes.as_slice()
+    }
+}

@@ -1,0 +1,12 @@
+pub mod Replay
+pub mod Over
+pub mod Report
+pub mod Rows
+pub use Rattle.lisp_base.specs.Value
+pub use Rattle.lisp_base.specs.Forest
+pub use Rattle.lisp_program.specs.Forms
+pub use Rattle.lisp_program.specs.Points
+pub use Rattle.world_semantics.specs.World
+pub use Rattle.world_semantics.specs.Effect
+pub use Rattle.thread_semantics.specs.State
+pub use Rattle.thread_semantics.specs.Step

@@ -1,0 +1,44 @@
+-- The report of a last configuration.
+use Rattle.std.specs.Prelude.{◌≡◌, ℕ, List, [], ◌∷◌, Bool, true, false, if◌then◌else◌, nat_lt}
+use Rattle.lisp_program.specs.Points.{nil}
+use Rattle.world_semantics.specs.declared.phase.Phase.{Phase}
+use Rattle.thread_semantics.specs.State.{Control, At, Exit, Ended, ThreadState}
+use Rattle.run_semantics.specs.declared.report.PhaseReport.{PhaseReport}
+use Rattle.run_semantics.specs.declared.report.PhaseReport.TheVariants.{Ended as IsEnded, OutOfPoints, Runnable}
+use Rattle.run_semantics.specs.declared.report.ThreadReport.{ThreadReport}
+use Rattle.run_semantics.specs.declared.report.ThreadLine.{ThreadLine}
+use Rattle.run_semantics.specs.declared.report.Report.{Report}
+use Rattle.run_semantics.specs.Replay.{Configuration}
+
+-- a thread that has not ended can go on, or is out of points
+abbrev pub unless_out : ℕ → ℕ → PhaseReport
+unless_out limit points = if nat_lt points limit then Runnable else OutOfPoints
+
+abbrev pub phase_shown : Control → ℕ → ℕ → PhaseReport
+phase_shown (At points values) limit taken = unless_out limit taken
+phase_shown (Exit target) limit taken = unless_out limit taken
+phase_shown Ended limit taken = IsEnded
+
+-- what a thread shows of itself
+abbrev pub thread_report : ℕ → ThreadState → ThreadReport
+thread_report limit s = record { phase = phase_shown s.control limit s.points; points = s.points }
+
+-- A line for each thread, by number, with the phase that all see. Each name is kept as NIL, since main alone
+-- is there.
+abbrev pub thread_lines : ℕ → List Phase → List ThreadState → List ThreadLine
+thread_lines limit phases [] = []
+thread_lines limit [] (s ∷ ss) = []
+thread_lines limit (phase ∷ phases) (s ∷ ss) = (record { name = nil; phase = phase; machine = thread_report limit s }) ∷ thread_lines limit phases ss
+
+abbrev pub has_ended : Control → Bool
+has_ended (At points values) = false
+has_ended (Exit target) = false
+has_ended Ended = true
+
+-- 0 where every thread has ended, else 3
+abbrev pub status_of : List ThreadState → ℕ
+status_of [] = 0
+status_of (s ∷ ss) = if has_ended s.control then status_of ss else 3
+
+abbrev pub report_of : ℕ → Configuration → Report
+report_of limit c = record { threads = thread_lines limit c.world.phases c.threads; status = status_of c.threads }

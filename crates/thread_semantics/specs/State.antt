@@ -1,0 +1,42 @@
+-- The state of one thread.
+use Rattle.std.specs.Prelude.{ℕ, List, []}
+use Rattle.lisp_base.specs.declared.value.Node.{Node}
+use Rattle.world_semantics.specs.declared.phase.Ending.{Ending}
+use Rattle.lisp_program.specs.Forms.{Forms}
+use Rattle.lisp_program.specs.Points.{Points, main_points}
+
+-- the kinds of frames, which are the contexts that an exit passes; there is no form with one yet
+pub data FrameKind : Type 0 where
+
+-- An open form: its kind and place, what goes on when it is left with a value, and the values that wait for
+-- that.
+pub record Frame : Type 0 where
+  pub kind : FrameKind
+  pub place : ℕ
+  pub after : Points
+  pub values : List Node
+
+-- where an exit leads: to the thread's base, which is to end as told
+pub data Target : Type 0 where
+  Base : (ending : Ending) → Target
+
+-- A thread rests before a point: about to take the first of these points, with the values that wait for them,
+-- front first; leaving to a target, one frame a point; or ended.
+pub data Control : Type 0 where
+  At : (points : Points) (values : List Node) → Control
+  Exit : (target : Target) → Control
+  Ended : Control
+
+-- the dynamic environment of a thread; it is empty as long as no form changes it
+pub record Environment : Type 0 where
+
+-- what the thread does, its open forms, innermost first, its environment, and how many points it took
+pub record ThreadState : Type 0 where
+  pub control : Control
+  pub frames : List Frame
+  pub environment : Environment
+  pub points : ℕ
+
+-- main before its first point
+abbrev pub first_state : Forms → ThreadState
+first_state f = record { control = At (main_points f) []; frames = []; environment = record {}; points = 0 }

@@ -1,0 +1,2 @@
+//! What one thread does next, and the state that it is in afterwards.
+#![tactic(auto)]

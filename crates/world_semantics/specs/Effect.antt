@@ -1,0 +1,45 @@
+-- What an operation does to the shared objects.
+use Rattle.std.specs.Prelude.{ℕ, List, [], ◌∷◌, ◌++◌, Option, Some, None, Bool, true, false, slice_get, slice_set}
+use Rattle.lisp_base.specs.declared.id.Actor.{Actor}
+use Rattle.lisp_base.specs.declared.id.Actor.TheVariants.{Thread, Runner}
+use Rattle.world_semantics.specs.declared.op.Op.{Op}
+use Rattle.world_semantics.specs.declared.op.Op.TheVariants.{Out, Finish}
+use Rattle.world_semantics.specs.declared.op.Reply.{Reply}
+use Rattle.world_semantics.specs.declared.op.Reply.TheVariants.{Okay}
+use Rattle.world_semantics.specs.declared.phase.Ending.{Ending}
+use Rattle.world_semantics.specs.declared.phase.Phase.{Phase}
+use Rattle.world_semantics.specs.declared.phase.Phase.TheVariants.{Alive, Ended}
+use Rattle.world_semantics.specs.World.{World}
+
+-- an operation answers and leaves a world, or it waits and changes nothing
+pub data Outcome : Type 0 where
+  Answers : (reply : Reply) (after : World) → Outcome
+  Waits : Outcome
+
+-- only a thread that is alive ends
+abbrev pub ended_from : Option Phase → ℕ → Ending → List Phase → List Phase
+ended_from None t ending phases = phases
+ended_from (Some Alive) t ending phases = slice_set phases t (Ended ending)
+ended_from (Some (Ended before)) t ending phases = phases
+
+-- the phases after an actor's `finish`; the runner is no thread
+abbrev pub phases_after : Actor → Ending → List Phase → List Phase
+phases_after (Thread t) ending phases = ended_from (slice_get phases t) t ending phases
+phases_after Runner ending phases = phases
+
+-- the effect of an operation
+abbrev pub effect_of : Op → Actor → World → Outcome
+-- `out` puts what is printed behind the output
+effect_of (Out printed) by w = Answers Okay (record w { output = w.output ++ printed ∷ [] })
+-- `finish` ends the thread that does it
+effect_of (Finish ending) by w = Answers Okay (record w { phases = phases_after by ending w.phases })
+
+-- the reply, where there is one
+abbrev pub reply_of : Outcome → Option Reply
+reply_of (Answers reply after) = Some reply
+reply_of Waits = None
+
+-- the world afterwards; where an operation waits it is the world before
+abbrev pub world_after : Outcome → World → World
+world_after (Answers reply after) before = after
+world_after Waits before = before

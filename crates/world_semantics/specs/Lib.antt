@@ -1,0 +1,3 @@
+pub mod World
+pub mod Effect
+pub use Rattle.lisp_base.specs.Value

@@ -1,0 +1,6 @@
+//! The shared objects, the operations on them, and what each operation does.
+#![tactic(auto)]
+
+pub mod entry;
+pub mod op;
+pub mod phase;

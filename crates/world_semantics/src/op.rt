@@ -1,0 +1,25 @@
+use crate::phase::Ending;
+use lisp_base::value::Value;
+
+/// What a printing function prints.
+#[derive(Clone, Copy, Debug, PartialEq, Eq)]
+pub enum Printed {
+    /// By `print`: a newline, the value escaped, and a space.
+    Print(Value),
+}
+
+/// An operation on shared objects.
+#[derive(Clone, Copy, Debug, PartialEq, Eq)]
+pub enum Op {
+    /// `out`: prints.
+    Out(Printed),
+    /// `finish`: ends the thread that does it.
+    Finish(Ending),
+}
+
+/// What an operation answers.
+#[derive(Clone, Copy, Debug, PartialEq, Eq)]
+pub enum Reply {
+    /// `ok`: it is done, and there is nothing more to say.
+    Okay,
+}

@@ -1,0 +1,18 @@
+use lisp_base::condition::Condition;
+use lisp_base::value::Value;
+
+/// How a thread ends.
+#[derive(Clone, Copy, Debug, PartialEq, Eq)]
+pub enum Ending {
+    /// It returned this value.
+    Returned(Value),
+    /// It was aborted with this condition, or with none.
+    Aborted(Option<Condition>),
+}
+
+/// Where a thread stands, as all threads see it.
+#[derive(Clone, Copy, Debug, PartialEq, Eq)]
+pub enum Phase {
+    Alive,
+    Ended(Ending),
+}
