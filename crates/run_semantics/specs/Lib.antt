@@ -1,6 +1,7 @@
 pub mod Replay
 pub mod Over
 pub mod Report
+pub mod Run
 pub mod Rows
 pub use Rattle.lisp_base.specs.Value
 pub use Rattle.lisp_base.specs.Forest

@@ -4,7 +4,9 @@ use Rattle.lisp_base.specs.declared.id.Actor.TheVariants.{Thread}
 use Rattle.world_semantics.specs.World.{World}
 use Rattle.world_semantics.specs.Effect.{effect_of, reply_of}
 use Rattle.thread_semantics.specs.State.{ThreadState}
-use Rattle.thread_semantics.specs.Step.{Next, Local, Operation, Nothing, next_of}
+use Rattle.thread_semantics.specs.declared.next.Next.{Next}
+use Rattle.thread_semantics.specs.declared.next.Next.TheVariants.{Local, Operation, Nothing}
+use Rattle.thread_semantics.specs.Step.{next_of}
 use Rattle.run_semantics.specs.Replay.{Configuration}
 
 -- a local point can always be taken, an operation where it does not wait

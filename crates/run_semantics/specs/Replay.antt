@@ -7,7 +7,8 @@ use Rattle.world_semantics.specs.declared.entry.Entry.{Entry}
 use Rattle.world_semantics.specs.World.{World, first_world}
 use Rattle.world_semantics.specs.Effect.{effect_of, reply_of, world_after}
 use Rattle.thread_semantics.specs.State.{ThreadState, first_state}
-use Rattle.thread_semantics.specs.Step.{Operation, next_of, after_reply, closed}
+use Rattle.thread_semantics.specs.declared.next.Next.TheVariants.{Operation}
+use Rattle.thread_semantics.specs.Step.{next_of, after_reply, closed}
 
 -- the shared objects, the threads by number, and the points that the runner took
 pub record Configuration : Type 0 where

@@ -16,16 +16,6 @@ use Rattle.world_semantics.specs.declared.phase.Ending.TheVariants.{Returned}
 use Rattle.world_semantics.specs.declared.phase.Phase.TheVariants.{Ended}
 use Rattle.run_semantics.specs.declared.report.PhaseReport.TheVariants.{Ended as IsEnded}
 use Rattle.run_semantics.specs.declared.report.Report.{Report}
-use Rattle.run_semantics.specs.Replay.{Configuration, Replays}
-use Rattle.run_semantics.specs.Over.{IsOver}
-use Rattle.run_semantics.specs.Report.{report_of}
-
--- with at most limit points for each thread, the program has a run with this journal, which ends with this report
-pub record RunsAs (limit : ℕ) (f : Forms) (journal : List Entry) (report : Report) : Type 0 where
-  pub last : Configuration
-  pub replays : Replays limit f journal last
-  pub over : IsOver limit last
-  pub reported : report ≡ report_of limit last
 
 -- an entry of main
 abbrev pub main_does : ℕ → ℕ → Op → Entry

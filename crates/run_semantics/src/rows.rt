@@ -3,7 +3,8 @@ ghost use Rattle.lisp_base.specs.Forest.{NoTrees};
 ghost use Rattle.lisp_base.specs.declared.value.Node.TheVariants.{Int};
 ghost use Rattle.lisp_program.specs.Points.{nil};
 ghost use Rattle.world_semantics.specs.declared.phase.Ending.TheVariants.{Returned};
-ghost use Rattle.run_semantics.specs.Rows.{RunsAs, main_ended, printed_sum, printed_sum_journal, no_forms_journal};
+ghost use Rattle.run_semantics.specs.Run.{RunsAs};
+ghost use Rattle.run_semantics.specs.Rows.{main_ended, printed_sum, printed_sum_journal, no_forms_journal};
 
 /// `(print (+ 1 2))` prints 3 at its fourth point and returns it at its fifth.
 pub fn a_printed_sum()

@@ -17,6 +17,8 @@ use Rattle.world_semantics.specs.declared.op.Printed.TheVariants.{Print}
 use Rattle.world_semantics.specs.declared.op.Reply.{Reply}
 use Rattle.world_semantics.specs.declared.op.Reply.TheVariants.{Okay}
 use Rattle.world_semantics.specs.declared.phase.Ending.TheVariants.{Returned, Aborted}
+use Rattle.thread_semantics.specs.declared.next.Next.{Next}
+use Rattle.thread_semantics.specs.declared.next.Next.TheVariants.{Local, Operation, Nothing}
 use Rattle.thread_semantics.specs.State.{Frame, Target, Base, Control, At, Exit, Ended, ThreadState}
 
 -- the front value
@@ -82,12 +84,6 @@ step_by Ended s = s
 -- the state after one local point
 abbrev pub local_step_of : ThreadState → ThreadState
 local_step_of s = step_by s.control (record s { points = suc s.points })
-
--- what comes next: a point that touches this thread alone, an operation, or nothing
-pub data Next : Type 0 where
-  Local : Next
-  Operation : (op : Op) → Next
-  Nothing : Next
 
 -- the operation that a question is
 abbrev pub question_op : Question → List Node → Op

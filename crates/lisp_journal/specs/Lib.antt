@@ -1,0 +1,4 @@
+pub mod Printing
+pub mod Journal
+pub mod Report
+pub mod Refusal

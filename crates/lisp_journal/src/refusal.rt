@@ -1,0 +1,20 @@
+ghost use Rattle.std.specs.Prelude.{◌≡◌, IfOk};
+ghost use Rattle.std.specs.String.{string_bytes};
+ghost use Rattle.lisp_journal.specs.Refusal.{refusal_line};
+
+use crate::journal::push_decimal;
+use lisp_base::id::Place;
+use lisp_base::memory::Memory;
+use std::alloc::Global;
+
+/// The line for a program that is refused: the number of the refusal, its name, and the place.
+pub fn write_refusal(alloc: Global, number: u32, place: Place) -> Result<String, Memory>
+    ensures { IfOk result (λ text. string_bytes text ≡ refusal_line number place) }
+{
+    let mut text = String::from_str(alloc, "refused ")?;
+    push_decimal(alloc, &mut text, u64::from(number))?;
+    text.push_str(" NotBuilt at ")?;
+    push_decimal(alloc, &mut text, u64::from(place.0))?;
+    text.push_str("\n")?;
+    Ok(text)
+}
