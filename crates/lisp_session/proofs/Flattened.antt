@@ -1,0 +1,193 @@
+-- What is written of forms so far.
+use Rattle.std.proofs.Common.{◌≡◌, ℕ, zero, suc, ◌+◌, ◌-◌, ◌<◌, ◌≤◌, ◌≢◌, List, [], ◌∷◌, ◌++◌, Bool, true, false, length, take, drop, get_or, refl, ap, sym, subst, ◌∙◌, arith, append_assoc, add-one, drop-cons}
+use Rattle.lisp_base.specs.Forest.{Forest, NoTrees, Tree, count_of, front, behind}
+use Rattle.lisp_program.specs.declared.act.Question.TheVariants.{EndThread}
+use Rattle.lisp_program.specs.declared.act.Act.TheVariants.{Push, Discard, Add}
+use Rattle.lisp_program.specs.declared.form.CoreKind.{CoreKind}
+use Rattle.lisp_program.specs.declared.form.CoreKind.TheVariants.{Constant, Plus, Print}
+use Rattle.lisp_program.specs.declared.form.FormNode.{FormNode}
+use Rattle.lisp_program.specs.Forms.{Forms, forms_of, node_in_front}
+use Rattle.lisp_program.specs.Points.{Points, Done, Do, Ask, joined, all_of, body_of, points_of, table}
+use Rattle.lisp_session.specs.declared.steps.Step.{Step}
+use Rattle.lisp_session.specs.declared.steps.Step.TheVariants.{Act, Ask as AskStep}
+use Rattle.lisp_session.specs.Evaluator.{steps_of}
+use Rattle.lisp_session.specs.Flatten.{strung, Writes, between, is_body, closing_steps}
+
+-- the steps so far, and those of the `left` forms still to come, are all that is to be written
+pub record Writing (nodes : List FormNode) (from count : ℕ) (body : Bool) (old now : List Step) (at left : ℕ) : Type 0 where
+  pub after : from ≤ at
+  pub within : at ≤ length nodes
+  pub steps : now ++ strung body (points_of (front left (forms_of (drop at nodes)))) ≡ old ++ strung body (points_of (front count (forms_of (drop from nodes))))
+  pub rest : behind left (forms_of (drop at nodes)) ≡ behind count (forms_of (drop from nodes))
+
+append-nil : {T : Type 0} (xs : List T) → xs ++ [] ≡ xs
+append-nil [] = refl
+append-nil (x ∷ xs) = ap (λ ys. x ∷ ys) (append-nil xs)
+
+-- a gap where more forms are wanted and there
+pub between_there : (left : ℕ) (nodes : List FormNode) (at : ℕ) → 0 < left → at < length nodes → between true left (drop at nodes) ≡ Act Discard ∷ []
+between_there zero nodes at h k = absurd (omega arith)
+between_there (suc n) [] at h k = absurd (omega arith)
+between_there (suc n) (x ∷ xs) zero h k = refl
+between_there (suc n) (x ∷ xs) (suc at) h k = between_there (suc n) xs at h (omega arith)
+
+-- no gap elsewhere
+pub between_outside : (body : Bool) (left : ℕ) (nodes : List FormNode) (at : ℕ) → length nodes ≤ at → between body left (drop at nodes) ≡ []
+between_outside body zero nodes at k = refl
+between_outside body (suc n) [] zero k = refl
+between_outside body (suc n) [] (suc at) k = refl
+between_outside body (suc n) (x ∷ xs) zero k = absurd (omega arith)
+between_outside body (suc n) (x ∷ xs) (suc at) k = between_outside body (suc n) xs at (omega arith)
+
+pub between_no_body : (left : ℕ) (ns : List FormNode) → between false left ns ≡ []
+between_no_body zero ns = refl
+between_no_body (suc n) [] = refl
+between_no_body (suc n) (x ∷ xs) = refl
+
+-- the steps of points behind points
+steps_of-joined : (a b : Points) → steps_of (joined a b) ≡ steps_of a ++ steps_of b
+steps_of-joined Done b = refl
+steps_of-joined (Do act p after) b = ap (λ s. Act act ∷ s) (steps_of-joined after b)
+steps_of-joined (Ask q p after) b = ap (λ s. AskStep q ∷ s) (steps_of-joined after b)
+
+-- the steps of forms in turn
+steps_of-all_of : (fs : List Points) → steps_of (all_of fs) ≡ strung false fs
+steps_of-all_of [] = refl
+steps_of-all_of (f ∷ fs) = steps_of-joined f (all_of fs) ∙ ap (λ s. steps_of f ++ s) (steps_of-all_of fs)
+
+take-front : {T : Type 0} (xs ys : List T) → take (length xs) (xs ++ ys) ≡ xs
+take-front [] ys = refl
+take-front (x ∷ xs) ys = ap (λ zs. x ∷ zs) (take-front xs ys)
+
+closed_by : (old s t u : List Step) → u ≡ s ++ t → (old ++ s) ++ t ≡ old ++ (u ++ [])
+closed_by old s t u e = rw (e, append-nil, append_assoc) refl
+
+-- the steps of a form are those of the forms under it, and its own
+asked_after : (fs : List Points) (last : Points) → steps_of (joined (all_of fs) last) ≡ strung false fs ++ steps_of last
+asked_after fs last = steps_of-joined (all_of fs) last ∙ ap (λ s. s ++ steps_of last) (steps_of-all_of fs)
+
+-- closing a form completes its steps
+closed_steps : (k : CoreKind) (p : ℕ) (fs : List Points) (old : List Step)
+  → closing_steps k (length old) (old ++ strung (is_body k) fs) ≡ old ++ (steps_of (table k p fs) ++ [])
+closed_steps (Constant v) p fs old = ap (λ s. s ++ Act (Push v) ∷ []) (take-front old (strung false fs))
+closed_steps Plus p fs old = closed_by old (strung false fs) _ _ (asked_after fs (Do Add p Done))
+closed_steps Print p fs old = closed_by old (strung false fs) _ _ (asked_after fs (table Print p []))
+
+-- the node at a place, and those behind it
+drop-at : (nodes : List FormNode) (at : ℕ) (n : FormNode) → at < length nodes → n ≡ get_or nodes at n → drop at nodes ≡ n ∷ drop (at + 1) nodes
+drop-at nodes at n h is = let e : drop at nodes ≡ get_or nodes at n ∷ drop (suc at) nodes = drop-cons nodes at n h in rw (add-one, is) e
+
+-- the form at a node is written once the forms under it are, and it is closed
+pub form_written : (nodes : List FormNode) (at next : ℕ) (n : FormNode) (old mid new : List Step) → at < length nodes → n ≡ get_or nodes at n
+  → Writes nodes (at + 1) n.parts (is_body n.kind) old mid next → new ≡ closing_steps n.kind (length old) mid → Writes nodes at 1 false old new next
+form_written nodes at next n old mid new h is w e =
+    let under : Forms = front n.parts (forms_of (drop (at + 1) nodes)) in
+    let here : forms_of (drop at nodes) ≡ node_in_front n (forms_of (drop (at + 1) nodes)) = ap forms_of (drop-at nodes at n h is) in
+    let written : new ≡ old ++ (steps_of (table n.kind n.place (points_of under)) ++ []) =
+      e ∙ ap (closing_steps n.kind (length old)) w.steps ∙ closed_steps n.kind n.place (points_of under) old in
+    record { after = omega (arith, w.after); within = w.within; steps = rw here written; rest = rw here w.rest }
+
+drop_all : (nodes : List FormNode) (at : ℕ) → length nodes ≤ at → drop at nodes ≡ []
+drop_all [] zero h = refl
+drop_all [] (suc at) h = refl
+drop_all (n ∷ ns) zero h = absurd (omega arith)
+drop_all (n ∷ ns) (suc at) h = drop_all ns at (omega arith)
+
+front_nothing : (left : ℕ) → front {K = CoreKind} left NoTrees ≡ NoTrees
+front_nothing zero = refl
+front_nothing (suc n) = refl
+
+behind_nothing : (left : ℕ) → behind {K = CoreKind} left NoTrees ≡ NoTrees
+behind_nothing zero = refl
+behind_nothing (suc n) = refl
+
+-- where no node is left, all is written
+pub all_written : (nodes : List FormNode) (from count : ℕ) (body : Bool) (old now : List Step) (at left : ℕ)
+  → Writing nodes from count body old now at left → length nodes ≤ at → Writes nodes from count body old now at
+all_written nodes from count body old now at left w h =
+    let nothing : drop at nodes ≡ [] = drop_all nodes at h in
+    let steps' : now ++ [] ≡ old ++ strung body (points_of (front count (forms_of (drop from nodes)))) = rw (nothing, front_nothing) at w.steps in
+    let rest' : NoTrees ≡ behind count (forms_of (drop from nodes)) = rw (nothing, behind_nothing) at w.rest in
+    record { after = w.after; within = w.within; steps = sym (append-nil now) ∙ steps'; rest = rw nothing rest' }
+
+-- the steps of a first form and of those after it
+strung-cons : (body : Bool) (left : ℕ) (ns : List FormNode) (p : Points)
+  → strung body (p ∷ points_of (front left (forms_of ns))) ≡ steps_of p ++ (between body left ns ++ strung body (points_of (front left (forms_of ns))))
+strung-cons false left ns p = rw (between_no_body left ns) refl
+strung-cons true zero ns p = sym (append-nil (steps_of p))
+strung-cons true (suc n) [] p = sym (append-nil (steps_of p))
+strung-cons true (suc n) (m ∷ ns) p = refl
+
+-- one form more is written
+more_by : (f : Forms) (nodes ns : List FormNode) (body : Bool) (now mid total : List Step) (left : ℕ) → f ≢ NoTrees
+  → now ++ strung body (points_of (front (suc left) f)) ≡ total → mid ≡ now ++ strung false (points_of (front 1 f)) → forms_of ns ≡ behind 1 f
+  → (mid ++ between body left ns) ++ strung body (points_of (front left (forms_of ns))) ≡ total
+more_by NoTrees nodes ns body now mid total left some e m r = absurd (some refl)
+more_by (Tree k p under beside) nodes ns body now mid total left some e m r =
+    let form : Points = table k p (points_of under) in
+    let later : List Step = strung body (points_of (front left (forms_of ns))) in
+    let split : now ++ (steps_of form ++ (between body left ns ++ later)) ≡ total =
+      ap (λ s. now ++ s) (sym (strung-cons body left ns form)) ∙ rw r e in
+    let shorter : mid ≡ now ++ steps_of form = m ∙ ap (λ s. now ++ s) (append-nil (steps_of form)) in
+    rw (shorter, append_assoc, append_assoc) split
+
+-- a node is a form
+some_form : (nodes : List FormNode) (at : ℕ) → at < length nodes → forms_of (drop at nodes) ≢ NoTrees
+some_form [] at h e = absurd (omega arith)
+some_form (n ∷ ns) zero h e = cc
+some_form (n ∷ ns) (suc at) h e = some_form ns at (omega arith) e
+
+behind-next : {K : Type 0} (left : ℕ) (f : Forest K) → behind (suc left) f ≡ behind left (behind 1 f)
+behind-next zero NoTrees = refl
+behind-next (suc n) NoTrees = refl
+behind-next left (Tree k p under beside) = refl
+
+-- one form more is written, and then the gap before the next
+pub form_more : (nodes : List FormNode) (from count : ℕ) (body : Bool) (old now mid new : List Step) (at next left later : ℕ)
+  → Writing nodes from count body old now at left → left ≡ suc later → at < length nodes → Writes nodes at 1 false now mid next → at < next
+  → new ≡ mid ++ between body later (drop next nodes) → Writing nodes from count body old new next later
+form_more nodes from count body old now mid new at next left later w l h f on e =
+    let all : now ++ strung body (points_of (front (suc later) (forms_of (drop at nodes)))) ≡ old ++ strung body (points_of (front count (forms_of (drop from nodes)))) =
+      rw l at w.steps in
+    let before : behind (suc later) (forms_of (drop at nodes)) ≡ behind count (forms_of (drop from nodes)) = rw l at w.rest in
+    record {
+      after = omega (arith, w.after);
+      within = f.within;
+      steps = rw e (more_by (forms_of (drop at nodes)) nodes (drop next nodes) body now mid _ later (some_form nodes at h) all f.steps f.rest);
+      rest = rw f.rest (sym (behind-next later (forms_of (drop at nodes))) ∙ before)
+    }
+
+-- forms that were taken as a whole
+count-behind : {K : Type 0} (n : ℕ) (f : Forest K) → count_of (behind n f) ≤ count_of f
+count-behind zero f = omega arith
+count-behind (suc n) NoTrees = omega arith
+count-behind (suc n) (Tree k p under beside) = omega (arith, count-behind n beside)
+
+count-forms_of : (ns : List FormNode) → count_of (forms_of ns) ≤ length ns
+count-forms_of [] = omega arith
+count-forms_of (n ∷ ns) = omega (arith, count-forms_of ns, count-behind n.parts (forms_of ns))
+
+front-all : {K : Type 0} (n : ℕ) (f : Forest K) → count_of f ≤ n → front n f ≡ f
+front-all zero NoTrees h = refl
+front-all zero (Tree k p under beside) h = absurd (omega arith)
+front-all (suc n) NoTrees h = refl
+front-all (suc n) (Tree k p under beside) h = ap (λ b. Tree k p under b) (front-all n beside (omega arith))
+
+-- the steps of a body that has a form
+strung_body : (p : ℕ) (f : Points) (fs : List Points) → strung true (f ∷ fs) ≡ steps_of (body_of p (f ∷ fs))
+strung_body p f [] = refl
+strung_body p f (g ∷ fs) =
+    ap (λ s. steps_of f ++ (Act Discard ∷ s)) (strung_body p g fs) ∙ sym (steps_of-joined f (Do Discard p (body_of p (g ∷ fs))))
+
+main_by : (f : Forms) (now : List Step) → f ≢ NoTrees → now ≡ strung true (points_of f) → now ++ AskStep EndThread ∷ [] ≡ steps_of (joined (body_of 0 (points_of f)) (Ask EndThread 0 Done))
+main_by NoTrees now some e = absurd (some refl)
+main_by (Tree k p under beside) now some e =
+    rw (e, strung_body 0 (table k p (points_of under)) (points_of beside)) (sym (steps_of-joined (body_of 0 (points_of (Tree k p under beside))) (Ask EndThread 0 Done)))
+
+-- all forms of main are written, and its end
+pub main_written : (nodes : List FormNode) (now new : List Step) (next : ℕ) → 0 < length nodes → Writes nodes 0 (length nodes) true [] now next
+  → new ≡ now ++ AskStep EndThread ∷ [] → new ≡ steps_of (joined (body_of 0 (points_of (forms_of nodes))) (Ask EndThread 0 Done))
+main_written nodes now new next h w e =
+    let whole : now ≡ strung true (points_of (forms_of nodes)) =
+      w.steps ∙ ap (λ f. strung true (points_of f)) (front-all (length nodes) (forms_of nodes) (count-forms_of nodes)) in
+    e ∙ main_by (forms_of nodes) now (some_form nodes 0 h) whole
