@@ -1,3 +1,4 @@
 pub mod Advances
 pub mod Stepped
 pub mod Flattened
+pub mod Turned

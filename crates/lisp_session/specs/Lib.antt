@@ -1,3 +1,4 @@
 pub mod Lists
 pub mod Evaluator
 pub mod Flatten
+pub mod Running
