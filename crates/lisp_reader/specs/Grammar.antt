@@ -1,10 +1,11 @@
 -- The texts that are programs, and the forms that they read as.
 use Rattle.std.specs.Prelude.{◌≡◌, ℕ, suc, pos, ◌≤◌, List, [], ◌∷◌, ◌++◌, Bool, true, false, Option, Some, None, is_some, if◌then◌else◌, ◌==◌, length}
-use Rattle.lisp_base.specs.Forest.{Forest, NoTrees, Tree, joined}
+use Rattle.lisp_base.specs.Forest.{NoTrees, Tree, joined}
 use Rattle.lisp_base.specs.declared.value.Node.TheVariants.{Int}
 use Rattle.lisp_program.specs.Forms.{Forms}
-use Rattle.lisp_program.specs.declared.form.CoreKind.{CoreKind}
 use Rattle.lisp_program.specs.declared.form.CoreKind.TheVariants.{Constant, Plus as PlusForm, Print as PrintForm}
+use Rattle.lisp_reader.specs.declared.fault.ReadFault.{ReadFault}
+use Rattle.lisp_reader.specs.declared.fault.ReadFault.TheVariants.{NotBuilt, UnmatchedClose, EndInside}
 use Rattle.lisp_reader.specs.declared.token.Word.{Word}
 use Rattle.lisp_reader.specs.declared.token.Word.TheVariants.{Number, Plus, Print}
 use Rattle.lisp_reader.specs.Pieces.{Piece, Opening, Closing, Letters, pieces_from}
@@ -22,14 +23,8 @@ spelling NoData = []
 spelling (Word' p letters beside) = Letters p letters ∷ spelling beside
 spelling (Nested p q under beside) = Opening p ∷ (spelling under ++ Closing q ∷ spelling beside)
 
--- why a text is refused in the order of reading
-pub data Fault : Type 0 where
-  NotBuilt : (place : ℕ) → Fault
-  UnmatchedClose : (place : ℕ) → Fault
-  EndInside : (place : ℕ) → Fault
-
 -- the first fault from here on, where the lists that begin at these places are open, innermost first
-abbrev pub fault_in : List ℕ → List Piece → Option Fault
+abbrev pub fault_in : List ℕ → List Piece → Option ReadFault
 -- the end comes inside a list
 fault_in [] [] = None
 fault_in (p ∷ opens) [] = Some (EndInside p)

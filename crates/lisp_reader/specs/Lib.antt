@@ -1,5 +1,10 @@
 pub mod Pieces
 pub mod Words
 pub mod Grammar
+pub mod Stack
+pub mod Tokens
+pub mod Faults
+pub mod Build
+pub mod Reading
 pub use Rattle.lisp_base.specs.Forest
 pub use Rattle.lisp_program.specs.Forms

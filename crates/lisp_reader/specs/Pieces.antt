@@ -1,5 +1,5 @@
 -- How a text falls into parentheses and words.
-use Rattle.std.specs.Prelude.{ℕ, suc, ◌+◌, List, [], ◌∷◌, Bool, ◌||◌, ◌==◌, if◌then◌else◌}
+use Rattle.std.specs.Prelude.{ℕ, suc, List, [], ◌∷◌, Bool, ◌||◌, ◌==◌, if◌then◌else◌}
 
 -- space, tab, newline, carriage return and form feed separate
 abbrev pub is_separator : ℕ → Bool

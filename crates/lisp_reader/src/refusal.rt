@@ -1,4 +1,8 @@
+ghost use Rattle.std.specs.Prelude.{◌≡◌};
+ghost use Rattle.lisp_reader.specs.declared.refusal.ReadRefusal.TheVariants.{Memory};
+
 use lisp_base::id::Place;
+use lisp_base::memory;
 
 /// Why a program is not read.
 #[derive(Clone, Copy, Debug, PartialEq, Eq)]
@@ -7,4 +11,12 @@ pub enum ReadRefusal {
     Refused { number: u32, place: Place },
     /// Memory ran out.
     Memory,
+}
+
+impl From<memory::Memory> for ReadRefusal {
+    ghost from_gives = { λ _ e. e ≡ Memory };
+
+    fn from(_error: memory::Memory) -> Self {
+        ReadRefusal::Memory
+    }
 }

@@ -1,0 +1,5 @@
+use Rattle.lisp_reader.proofs.Readings.{one_reading}
+use Rattle.lisp_reader.proofs.reader.one_reading.Goals as goal
+
+pub returns : goal.returns
+returns c = one_reading
