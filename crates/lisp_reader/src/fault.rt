@@ -1,5 +1,5 @@
 ghost use Rattle.std.specs.Prelude.{◌≡◌, [], IfOk, OnOk};
-ghost use Rattle.lisp_reader.specs.Faults.{end_fault, fault_by, fault_from, opens_by};
+ghost use Rattle.lisp_reader.specs.Faults.{fault_by, fault_from, opens_by};
 
 use crate::stack::Stack;
 use crate::token::{Token, TokenKind};

@@ -68,7 +68,7 @@ asked_after fs last = steps_of-joined (all_of fs) last ∙ ap (λ s. s ++ steps_
 
 -- closing a form completes its steps
 closed_steps : (k : CoreKind) (p : ℕ) (fs : List Points) (old : List Step)
-  → closing_steps k (length old) (old ++ strung (is_body k) fs) ≡ old ++ (steps_of (table k p fs) ++ [])
+    → closing_steps k (length old) (old ++ strung (is_body k) fs) ≡ old ++ (steps_of (table k p fs) ++ [])
 closed_steps (Constant v) p fs old = ap (λ s. s ++ Act (Push v) ∷ []) (take-front old (strung false fs))
 closed_steps Plus p fs old = closed_by old (strung false fs) _ _ (asked_after fs (Do Add p Done))
 closed_steps Print p fs old = closed_by old (strung false fs) _ _ (asked_after fs (table Print p []))
@@ -79,12 +79,12 @@ drop-at nodes at n h is = let e : drop at nodes ≡ get_or nodes at n ∷ drop (
 
 -- the form at a node is written once the forms under it are, and it is closed
 pub form_written : (nodes : List FormNode) (at next : ℕ) (n : FormNode) (old mid new : List Step) → at < length nodes → n ≡ get_or nodes at n
-  → Writes nodes (at + 1) n.parts (is_body n.kind) old mid next → new ≡ closing_steps n.kind (length old) mid → Writes nodes at 1 false old new next
+    → Writes nodes (at + 1) n.parts (is_body n.kind) old mid next → new ≡ closing_steps n.kind (length old) mid → Writes nodes at 1 false old new next
 form_written nodes at next n old mid new h is w e =
     let under : Forms = front n.parts (forms_of (drop (at + 1) nodes)) in
     let here : forms_of (drop at nodes) ≡ node_in_front n (forms_of (drop (at + 1) nodes)) = ap forms_of (drop-at nodes at n h is) in
     let written : new ≡ old ++ (steps_of (table n.kind n.place (points_of under)) ++ []) =
-      e ∙ ap (closing_steps n.kind (length old)) w.steps ∙ closed_steps n.kind n.place (points_of under) old in
+    e ∙ ap (closing_steps n.kind (length old)) w.steps ∙ closed_steps n.kind n.place (points_of under) old in
     record { after = omega (arith, w.after); within = w.within; steps = rw here written; rest = rw here w.rest }
 
 drop_all : (nodes : List FormNode) (at : ℕ) → length nodes ≤ at → drop at nodes ≡ []
@@ -103,7 +103,7 @@ behind_nothing (suc n) = refl
 
 -- where no node is left, all is written
 pub all_written : (nodes : List FormNode) (from count : ℕ) (body : Bool) (old now : List Step) (at left : ℕ)
-  → Writing nodes from count body old now at left → length nodes ≤ at → Writes nodes from count body old now at
+    → Writing nodes from count body old now at left → length nodes ≤ at → Writes nodes from count body old now at
 all_written nodes from count body old now at left w h =
     let nothing : drop at nodes ≡ [] = drop_all nodes at h in
     let steps' : now ++ [] ≡ old ++ strung body (points_of (front count (forms_of (drop from nodes)))) = rw (nothing, front_nothing) at w.steps in
@@ -112,7 +112,7 @@ all_written nodes from count body old now at left w h =
 
 -- the steps of a first form and of those after it
 strung-cons : (body : Bool) (left : ℕ) (ns : List FormNode) (p : Points)
-  → strung body (p ∷ points_of (front left (forms_of ns))) ≡ steps_of p ++ (between body left ns ++ strung body (points_of (front left (forms_of ns))))
+    → strung body (p ∷ points_of (front left (forms_of ns))) ≡ steps_of p ++ (between body left ns ++ strung body (points_of (front left (forms_of ns))))
 strung-cons false left ns p = rw (between_no_body left ns) refl
 strung-cons true zero ns p = sym (append-nil (steps_of p))
 strung-cons true (suc n) [] p = sym (append-nil (steps_of p))
@@ -120,14 +120,14 @@ strung-cons true (suc n) (m ∷ ns) p = refl
 
 -- one form more is written
 more_by : (f : Forms) (nodes ns : List FormNode) (body : Bool) (now mid total : List Step) (left : ℕ) → f ≢ NoTrees
-  → now ++ strung body (points_of (front (suc left) f)) ≡ total → mid ≡ now ++ strung false (points_of (front 1 f)) → forms_of ns ≡ behind 1 f
-  → (mid ++ between body left ns) ++ strung body (points_of (front left (forms_of ns))) ≡ total
+    → now ++ strung body (points_of (front (suc left) f)) ≡ total → mid ≡ now ++ strung false (points_of (front 1 f)) → forms_of ns ≡ behind 1 f
+    → (mid ++ between body left ns) ++ strung body (points_of (front left (forms_of ns))) ≡ total
 more_by NoTrees nodes ns body now mid total left some e m r = absurd (some refl)
 more_by (Tree k p under beside) nodes ns body now mid total left some e m r =
     let form : Points = table k p (points_of under) in
     let later : List Step = strung body (points_of (front left (forms_of ns))) in
     let split : now ++ (steps_of form ++ (between body left ns ++ later)) ≡ total =
-      ap (λ s. now ++ s) (sym (strung-cons body left ns form)) ∙ rw r e in
+    ap (λ s. now ++ s) (sym (strung-cons body left ns form)) ∙ rw r e in
     let shorter : mid ≡ now ++ steps_of form = m ∙ ap (λ s. now ++ s) (append-nil (steps_of form)) in
     rw (shorter, append_assoc, append_assoc) split
 
@@ -144,17 +144,17 @@ behind-next left (Tree k p under beside) = refl
 
 -- one form more is written, and then the gap before the next
 pub form_more : (nodes : List FormNode) (from count : ℕ) (body : Bool) (old now mid new : List Step) (at next left later : ℕ)
-  → Writing nodes from count body old now at left → left ≡ suc later → at < length nodes → Writes nodes at 1 false now mid next → at < next
-  → new ≡ mid ++ between body later (drop next nodes) → Writing nodes from count body old new next later
+    → Writing nodes from count body old now at left → left ≡ suc later → at < length nodes → Writes nodes at 1 false now mid next → at < next
+    → new ≡ mid ++ between body later (drop next nodes) → Writing nodes from count body old new next later
 form_more nodes from count body old now mid new at next left later w l h f on e =
     let all : now ++ strung body (points_of (front (suc later) (forms_of (drop at nodes)))) ≡ old ++ strung body (points_of (front count (forms_of (drop from nodes)))) =
-      rw l at w.steps in
+    rw l at w.steps in
     let before : behind (suc later) (forms_of (drop at nodes)) ≡ behind count (forms_of (drop from nodes)) = rw l at w.rest in
     record {
       after = omega (arith, w.after);
       within = f.within;
       steps = rw e (more_by (forms_of (drop at nodes)) nodes (drop next nodes) body now mid _ later (some_form nodes at h) all f.steps f.rest);
-      rest = rw f.rest (sym (behind-next later (forms_of (drop at nodes))) ∙ before)
+      rest = rw f.rest (sym (behind-next later (forms_of (drop at nodes))) ∙ before);
     }
 
 -- forms that were taken as a whole
@@ -186,8 +186,8 @@ main_by (Tree k p under beside) now some e =
 
 -- all forms of main are written, and its end
 pub main_written : (nodes : List FormNode) (now new : List Step) (next : ℕ) → 0 < length nodes → Writes nodes 0 (length nodes) true [] now next
-  → new ≡ now ++ AskStep EndThread ∷ [] → new ≡ steps_of (joined (body_of 0 (points_of (forms_of nodes))) (Ask EndThread 0 Done))
+    → new ≡ now ++ AskStep EndThread ∷ [] → new ≡ steps_of (joined (body_of 0 (points_of (forms_of nodes))) (Ask EndThread 0 Done))
 main_written nodes now new next h w e =
     let whole : now ≡ strung true (points_of (forms_of nodes)) =
-      w.steps ∙ ap (λ f. strung true (points_of f)) (front-all (length nodes) (forms_of nodes) (count-forms_of nodes)) in
+    w.steps ∙ ap (λ f. strung true (points_of f)) (front-all (length nodes) (forms_of nodes) (count-forms_of nodes)) in
     e ∙ main_by (forms_of nodes) now (some_form nodes 0 h) whole

@@ -55,9 +55,9 @@ closed-local : (limit : ℕ) (s : ThreadState) → next_of s ≡ Local → s.poi
 closed-local limit s n h =
     let left : limit - s.points ≡ suc (limit - suc s.points) = omega arith in
     let after : closed limit (local_step_of s) ≡ advanced (limit - suc s.points) (local_step_of s) =
-      ap (λ p. advanced (limit - p) (local_step_of s)) (local_step-points s) in
+    ap (λ p. advanced (limit - p) (local_step_of s)) (local_step-points s) in
     let step : going_on (next_of s) s (λ t. advanced (limit - suc s.points) t) ≡ advanced (limit - suc s.points) (local_step_of s) =
-      ap (λ x. going_on x s (λ t. advanced (limit - suc s.points) t)) n in
+    ap (λ x. going_on x s (λ t. advanced (limit - suc s.points) t)) n in
     let before : closed limit s ≡ advanced (suc (limit - suc s.points)) s = ap (λ m. advanced m s) left in
     after ∙ sym step ∙ sym before
 
@@ -75,9 +75,9 @@ closed-out limit s h = let none : limit - s.points ≡ 0 = omega arith in ap (λ
 
 -- a local point of the evaluator is one of the run
 pub local_ran : (limit taken : ℕ) (f : Forms) (run : Run) (e : Evaluator) → Ran limit f taken run → taken < limit
-  → ((s : ThreadState) → Stands s run.evaluator → Local ≡ next_of s)
-  → ((s : ThreadState) → Stands s run.evaluator → next_of s ≡ Local → Stands (local_step_of s) e)
-  → Ran limit f (suc taken) (record run { evaluator = e })
+    → ((s : ThreadState) → Stands s run.evaluator → Local ≡ next_of s)
+    → ((s : ThreadState) → Stands s run.evaluator → next_of s ≡ Local → Stands (local_step_of s) e)
+    → Ran limit f (suc taken) (record run { evaluator = e })
 local_ran limit taken f run e r h next step =
     let local : next_of r.present ≡ Local = sym (next r.present r.stands) in
     let room : r.present.points < limit = omega (arith, r.points) in
@@ -91,7 +91,7 @@ local_ran limit taken f run e r h next step =
       stands = step r.present r.stands local;
       points = local_step-points r.present ∙ ap (λ n. suc n) r.points;
       phases = r.phases;
-      few = omega (arith, r.few)
+      few = omega (arith, r.few);
     }
 
 and-false : (b : Bool) → b && false ≡ false
@@ -100,14 +100,14 @@ and-false false = refl
 
 -- nothing comes next
 pub nothing_left : (limit taken : ℕ) (f : Forms) (run : Run) → Ran limit f taken run
-  → ((s : ThreadState) → Stands s run.evaluator → Nothing ≡ next_of s) → Stops limit f run
+    → ((s : ThreadState) → Stands s run.evaluator → Nothing ≡ next_of s) → Stops limit f run
 nothing_left limit taken f run r next =
     let none : next_of r.present ≡ Nothing = sym (next r.present r.stands) in
     record {
       taken = taken;
       ran = r;
       settled = advanced-nothing (limit - r.present.points) r.present none;
-      idle = ap (λ x. nat_lt r.present.points limit && goes_on x 0 r.world) none ∙ and-false _
+      idle = ap (λ x. nat_lt r.present.points limit && goes_on x 0 r.world) none ∙ and-false _;
     }
 
 -- no points are left
@@ -118,7 +118,7 @@ out_of_points limit taken f run r h =
       taken = taken;
       ran = r;
       settled = closed-out limit r.present (omega (arith, r.points));
-      idle = ap (λ b. b && goes_on (next_of r.present) 0 r.world) none
+      idle = ap (λ b. b && goes_on (next_of r.present) 0 r.world) none;
     }
   where
     not_below : (m n : ℕ) → n ≤ m → nat_lt m n ≡ false
@@ -126,12 +126,12 @@ out_of_points limit taken f run r h =
 
 -- one more legal entry
 legal_more : (limit n : ℕ) (es : List Entry) (e : Entry) (c : Configuration) → AreLegal limit n c es → e.ticket ≡ n + length es
-  → IsLegalBy e.actor limit (after_entries limit es c) e → AreLegal limit n c (es ++ e ∷ [])
+    → IsLegalBy e.actor limit (after_entries limit es c) e → AreLegal limit n c (es ++ e ∷ [])
 legal_more limit n [] e c h t l = ((omega arith), l, tt)
 legal_more limit n (x ∷ xs) e c h t l = (h.0, h.1, legal_more limit (suc n) xs e (after_entry limit x c) h.2 (omega arith) l)
 
 leads_more : (limit : ℕ) (es : List Entry) (e : Entry) (c : Configuration)
-  → after_entries limit (es ++ e ∷ []) c ≡ after_entry limit e (after_entries limit es c)
+    → after_entries limit (es ++ e ∷ []) c ≡ after_entry limit e (after_entries limit es c)
 leads_more limit [] e c = refl
 leads_more limit (x ∷ xs) e c = leads_more limit xs e (after_entry limit x c)
 
@@ -157,22 +157,22 @@ stands-points s e h = ap (λ (d : Evaluator). d.points) h.shown ∙ shown_at-poi
 
 -- an operation of the evaluator is an entry of the run
 pub operation_ran : (limit taken : ℕ) (f : Forms) (run : Run) (op : Op) (e : Evaluator) (phase : Phase) (entries : List Entry) → Ran limit f taken run → taken < limit
-  → AsksFor op run.evaluator
-  → entries ≡ run.entries ++ (record { ticket = length run.entries + 1; actor = Thread 0; point = run.evaluator.points + 1; op = op; reply = Okay }) ∷ []
-  → ((s : ThreadState) (o : Op) → Stands s run.evaluator → next_of s ≡ Operation o → Stands (after_reply Okay s) e)
-  → phase ≡ phase_by op run.phase
-  → Ran limit f (suc taken) (record { evaluator = e; phase = phase; entries = entries })
+    → AsksFor op run.evaluator
+    → entries ≡ run.entries ++ (record { ticket = length run.entries + 1; actor = Thread 0; point = run.evaluator.points + 1; op = op; reply = Okay }) ∷ []
+    → ((s : ThreadState) (o : Op) → Stands s run.evaluator → next_of s ≡ Operation o → Stands (after_reply Okay s) e)
+    → phase ≡ phase_by op run.phase
+    → Ran limit f (suc taken) (record { evaluator = e; phase = phase; entries = entries })
 operation_ran limit taken f run op e phase entries r h asks more accept p =
     let entry : Entry = record { ticket = length run.entries + 1; actor = Thread 0; point = run.evaluator.points + 1; op = op; reply = Okay } in
     let next : next_of r.present ≡ Operation op = sym (asks r.present r.stands) in
     let here : closed limit r.start ≡ r.present = sym r.same ∙ advanced-operation (limit - r.present.points) r.present op next in
     let shown : run.evaluator.points ≡ r.present.points = stands-points r.present run.evaluator r.stands in
     let may : MayDo limit r.present r.world entry =
-      record { operation = next; left = omega (arith, r.points); point = omega arith; answer = answered op r.world } in
+    record { operation = next; left = omega (arith, r.points); point = omega arith; answer = answered op r.world } in
     let legal_there : MayDo limit (closed limit r.start) r.world entry =
-      subst (λ (s : ThreadState). MayDo limit s r.world entry) (sym here) may in
+    subst (λ (s : ThreadState). MayDo limit s r.world entry) (sym here) may in
     let legal' : IsLegalBy (Thread 0) limit (after_entries limit run.entries (first_configuration f)) entry =
-      subst (λ (c : Configuration). IsLegalBy (Thread 0) limit c entry) (sym r.leads) legal_there in
+    subst (λ (c : Configuration). IsLegalBy (Thread 0) limit c entry) (sym r.leads) legal_there in
     record {
       start = after_reply Okay (closed limit r.start);
       present = after_reply Okay r.present;
@@ -183,12 +183,12 @@ operation_ran limit taken f run op e phase entries r h asks more accept p =
       stands = accept r.present op r.stands next;
       points = ap (λ n. suc n) r.points;
       phases = rw p (phases_by op r.world run.phase r.phases);
-      few = rw (more, length-append) (omega (arith, r.few))
+      few = rw (more, length-append) (omega (arith, r.few));
     }
 
 -- a run before its first point
 pub begun : (limit : ℕ) (f : Forms) (run : Run) → run.evaluator ≡ record { doing = Running; ahead = steps_of (main_points f); values = []; points = 0 }
-  → run.phase ≡ Alive → run.entries ≡ [] → Ran limit f 0 run
+    → run.phase ≡ Alive → run.entries ≡ [] → Ran limit f 0 run
 begun limit f run e p n =
     record {
       start = first_state f;
@@ -200,7 +200,7 @@ begun limit f run e p n =
       stands = record { shown = e; bare = refl };
       points = refl;
       phases = rw p refl;
-      few = rw n (omega arith)
+      few = rw n (omega arith);
     }
 
 -- the evaluator counts the points of the run

@@ -43,7 +43,13 @@ fn push_closing(kind: CoreKind, start: usize, steps: &mut Vec<Step>) -> Result<(
 
 /// Discards the value of a form of a body where `left` more forms are wanted and the node at `at` is there.
 #[tactic(auto, using(crate::proofs::Flattened::between_there, crate::proofs::Flattened::between_outside, crate::proofs::Flattened::between_no_body))]
-fn push_between(body: bool, left: usize, nodes: &[FormNode], at: usize, steps: &mut Vec<Step>) -> Result<(), Memory>
+fn push_between(
+    body: bool,
+    left: usize,
+    nodes: &[FormNode],
+    at: usize,
+    steps: &mut Vec<Step>,
+) -> Result<(), Memory>
     ensures { OnOk result (steps.new.items ≡ steps.old.items ++ between body left (drop at nodes.now)) }
 {
     if body && left > 0 && at < nodes.len() {
@@ -57,7 +63,13 @@ fn push_between(body: bool, left: usize, nodes: &[FormNode], at: usize, steps: &
 /// Writes the steps of the next `count` forms from the node at `from` on, and says at which node the forms after
 /// them begin.
 #[cycle(forms)]
-fn push_forms(nodes: &[FormNode], from: usize, count: usize, body: bool, steps: &mut Vec<Step>) -> Result<usize, Memory>
+fn push_forms(
+    nodes: &[FormNode],
+    from: usize,
+    count: usize,
+    body: bool,
+    steps: &mut Vec<Step>,
+) -> Result<usize, Memory>
     requires { from ≤ length nodes.now }
     ensures { IfOk result (Writes nodes.now from count body steps.old.items steps.new.items) }
 {
@@ -81,7 +93,13 @@ fn push_form(nodes: &[FormNode], at: usize, steps: &mut Vec<Step>) -> Result<usi
 {
     let node = nodes[at];
     let start = steps.as_slice().len();
-    let next = push_forms(nodes, at + 1, node.parts as usize, has_body(node.kind), steps)?;
+    let next = push_forms(
+        nodes,
+        at + 1,
+        node.parts as usize,
+        has_body(node.kind),
+        steps,
+    )?;
     push_closing(node.kind, start, steps)?;
     Ok(next)
 }

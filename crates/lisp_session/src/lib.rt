@@ -1,8 +1,12 @@
 //! The top calls: a program from its bytes to its journal and report.
 #![tactic(auto)]
 
+mod answer;
 mod evaluator;
 mod flatten;
+mod input;
+mod output;
 mod run;
 mod stack;
 mod steps;
+pub mod top;

@@ -170,7 +170,11 @@ pub(crate) fn run_program(alloc: Global, program: &Program, limit: u32) -> Resul
     let mut run = Run::new(alloc, program)?;
     run.go(limit)?;
     let report = run.report(alloc, limit)?;
-    let Run { evaluator, phase: _, entries } = run;
+    let Run {
+        evaluator,
+        phase: _,
+        entries,
+    } = run;
     drop(evaluator);
     Ok(Finished { entries, report })
 }

@@ -24,7 +24,9 @@ impl<T: Copy + Drop> Stack<T> {
     pub(crate) fn new(alloc: Global) -> Self
         ensures { result ≡ [] }
     {
-        Stack { items: Vec::new(alloc) }
+        Stack {
+            items: Vec::new(alloc),
+        }
     }
 
     /// The top item.

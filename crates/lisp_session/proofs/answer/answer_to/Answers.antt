@@ -1,0 +1,7 @@
+use Rattle.lisp_reader.specs.Reading.{IsRefusal}
+use Rattle.lisp_session.proofs.answer.answer_to.Goals as goal
+
+pub returns : goal.returns
+returns c =
+    let refused = rw c.in-Err.is at c.read_forms-reading.ensures.refused in
+    c.in_ok-refusal_text-in-Err.ensures _ refused

@@ -1,0 +1,139 @@
+ghost use Rattle.std.specs.Prelude.{◌≡◌, ◌≢◌, ℕ, ◌≤◌, ◌⊎◌, List, Some, IfOk};
+ghost use Rattle.std.specs.Io.KnownBytes.{Keeps};
+ghost use Rattle.lisp_edge.specs.Faults.{Rose};
+ghost use Rattle.lisp_program.specs.Forms.{Forms};
+ghost use Rattle.lisp_reader.specs.Grammar.{Reads};
+ghost use Rattle.lisp_session.specs.Answer.{Answers, Wrote, EndsAs, number_of};
+ghost use Rattle.lisp_session.specs.Headline.{Headline, RefusedProgram, WroteFront, IsRunStatus, IsStatus, CausesRun, CausesRefusal};
+
+use crate::answer::{Answer, answer_to};
+use crate::input::{ReadFailure, read_text};
+use crate::output::write_text;
+use lisp_edge::clock::Clock;
+use lisp_edge::gate::Gate;
+use lisp_edge::sink::Sink;
+use lisp_edge::source::Source;
+use std::alloc::Global;
+
+/// How a top call ends.
+#[derive(Clone, Copy, Debug, PartialEq, Eq)]
+pub(crate) enum Outcome {
+    /// The run ended with this status, and all was written.
+    Ran(u8),
+    /// The text is no program, and the line that says so was written.
+    Refused,
+    /// The source failed.
+    ReadFault,
+    /// The sink failed.
+    WriteFault,
+    /// Memory ran out.
+    Memory,
+}
+
+/// Writes an answer.
+#[tactic(auto, using(crate::proofs::Wrote::run_wrote, crate::proofs::Wrote::refusal_wrote, crate::proofs::Wrote::run_failed, crate::proofs::Wrote::refusal_failed))]
+fn write_answer<K: Sink>(sink: &mut K, answer: &Answer) -> Outcome
+    ensures wrote { (bytes : List ℕ) → Answers bytes answer.now → Wrote bytes (K.held sink.old) (K.held sink.new) (K.faults sink.old) (K.faults sink.new) result }
+    ensures later { K.faults sink.old ≤ K.faults sink.new }
+{
+    match answer {
+        Answer::OfRun(text, status) => match write_text(sink, text.as_bytes()) {
+            Ok(()) => Outcome::Ran(*status),
+            Err(_) => Outcome::WriteFault,
+        },
+        Answer::OfRefusal(text) => match write_text(sink, text.as_bytes()) {
+            Ok(()) => Outcome::Refused,
+            Err(_) => Outcome::WriteFault,
+        },
+    }
+}
+
+/// Answers a text.
+fn answer_text<K: Sink>(alloc: Global, text: &[u8], sink: &mut K) -> Outcome
+    ensures wrote { Wrote text.now (K.held sink.old) (K.held sink.new) (K.faults sink.old) (K.faults sink.new) result }
+    ensures later { K.faults sink.old ≤ K.faults sink.new }
+{
+    match answer_to(alloc, text) {
+        Ok(answer) => write_answer(sink, &answer),
+        Err(_) => Outcome::Memory,
+    }
+}
+
+/// Answers the text that a source has left.
+#[tactic(auto, using(crate::proofs::Wrote::ends))]
+fn answer_source<S: Source, K: Sink>(alloc: Global, source: &mut S, sink: &mut K) -> Outcome
+    ensures ends { EndsAs (S.left source.old) (S.left source.new) (S.faults source.old) (S.faults source.new) (K.held sink.old) (K.held sink.new) (K.faults sink.old) (K.faults sink.new) result }
+    ensures source_later { S.faults source.old ≤ S.faults source.new }
+    ensures sink_later { K.faults sink.old ≤ K.faults sink.new }
+{
+    match read_text(alloc, source) {
+        Ok(text) => answer_text(alloc, text.as_slice(), sink),
+        Err(ReadFailure::Fault) => Outcome::ReadFault,
+        Err(ReadFailure::Memory) => Outcome::Memory,
+    }
+}
+
+/// The number of an outcome.
+fn status_of(outcome: Outcome) -> u8
+    ensures { result ≡ number_of outcome }
+{
+    match outcome {
+        Outcome::Ran(status) => status,
+        Outcome::Refused => 4,
+        Outcome::ReadFault => 5,
+        Outcome::WriteFault => 6,
+        Outcome::Memory => 7,
+    }
+}
+
+/// Runs the program that the source has left, with one worker, and writes its journal and report, or one line that
+/// says why there is no run. It answers the status: 0 where the run ended and every thread has ended, 3 where it ended
+/// and some thread has not, 4 for a text that is no program, 5 where the source failed, 6 where the sink failed, and 7
+/// where memory ran out. It always returns.
+pub fn run_one<S: Source, K: Sink, C: Clock>(
+    alloc: Global,
+    _words: &[String],
+    source: &mut S,
+    sink: &mut K,
+    _clock: &C,
+) -> u8
+    ensures headline { IsRunStatus result → Headline (S.left source.old) (S.left source.new) (K.held sink.old) (K.held sink.new) result }
+    ensures refused_program { result ≡ 4 → RefusedProgram (S.left source.old) (K.held sink.old) (K.held sink.new) }
+    ensures read_fault { result ≡ 5 → Rose (S.faults source.old) (S.faults source.new) × Keeps (K.held sink.old) (K.held sink.new) }
+    ensures write_fault { result ≡ 6 → Rose (K.faults sink.old) (K.faults sink.new) × WroteFront (S.left source.old) (S.left source.new) (K.held sink.old) (K.held sink.new) }
+    ensures memory { result ≡ 7 → Keeps (K.held sink.old) (K.held sink.new) }
+
+    // Where no end fails, a program is run and another text is refused, unless memory runs out.
+    ensures complete { CausesRun (S.left source.old) (S.faults source.old) (S.faults source.new) (K.faults sink.old) (K.faults sink.new) result }
+    ensures refuses { CausesRefusal (S.left source.old) (S.faults source.old) (S.faults source.new) (K.faults sink.old) (K.faults sink.new) result }
+    ensures others { IsStatus result }
+    ensures source_later { S.faults source.old ≤ S.faults source.new }
+    ensures sink_later { K.faults sink.old ≤ K.faults sink.new }
+{
+    status_of(answer_source(alloc, source, sink))
+}
+
+/// The same as `run_one`, until there are workers to share the work. The gate is not entered yet.
+pub fn run_top<S: Source, K: Sink, C: Clock, G: Gate>(
+    alloc: Global,
+    words: &[String],
+    source: &mut S,
+    sink: &mut K,
+    clock: &C,
+    _gate: &G,
+) -> u8
+    ensures headline { IsRunStatus result → Headline (S.left source.old) (S.left source.new) (K.held sink.old) (K.held sink.new) result }
+    ensures refused_program { result ≡ 4 → RefusedProgram (S.left source.old) (K.held sink.old) (K.held sink.new) }
+    ensures read_fault { result ≡ 5 → Rose (S.faults source.old) (S.faults source.new) × Keeps (K.held sink.old) (K.held sink.new) }
+    ensures write_fault { result ≡ 6 → Rose (K.faults sink.old) (K.faults sink.new) × WroteFront (S.left source.old) (S.left source.new) (K.held sink.old) (K.held sink.new) }
+    ensures memory { result ≡ 7 → Keeps (K.held sink.old) (K.held sink.new) }
+
+    // Where no end fails, a program is run and another text is refused, unless memory runs out.
+    ensures complete { CausesRun (S.left source.old) (S.faults source.old) (S.faults source.new) (K.faults sink.old) (K.faults sink.new) result }
+    ensures refuses { CausesRefusal (S.left source.old) (S.faults source.old) (S.faults source.new) (K.faults sink.old) (K.faults sink.new) result }
+    ensures others { IsStatus result }
+    ensures source_later { S.faults source.old ≤ S.faults source.new }
+    ensures sink_later { K.faults sink.old ≤ K.faults sink.new }
+{
+    run_one(alloc, words, source, sink, clock)
+}
