@@ -12,6 +12,13 @@ fn main(rt: HostRuntime) -> ExitCode {
     let mut source = StdSource::new(rt.stdin());
     let mut sink = StdSink::new(rt.stdout());
     let clock = VirtualClock::new();
-    let status = run_top(rt.alloc(), &words, &mut source, &mut sink, &clock, &OpenGate);
+    let status = run_top(
+        rt.alloc(),
+        &words,
+        &mut source,
+        &mut sink,
+        &clock,
+        &OpenGate,
+    );
     ExitCode::from(status)
 }

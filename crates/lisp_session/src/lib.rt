@@ -9,4 +9,6 @@ mod output;
 mod run;
 mod stack;
 mod steps;
+#[cfg(test)]
+mod tests;
 pub mod top;
