@@ -1,7 +1,20 @@
 -- The line that is written for a program that is refused.
-use Rattle.std.specs.Prelude.{ℕ, List, ◌++◌, codes}
+use Rattle.std.specs.Prelude.{ℕ, List, ◌++◌, ◌==◌, if◌then◌else◌, codes}
 use Rattle.std.specs.Fmt.{decimal}
+
+-- the name of the refusal with this number; there is no other yet
+abbrev pub refusal_name : ℕ → List ℕ
+refusal_name number =
+    if number == 2 then codes "EndInside"
+    else if number == 3 then codes "UnmatchedClose"
+    else if number == 7 then codes "TooLong"
+    else if number == 10 then codes "NotBuilt"
+    else codes "?"
 
 -- the number of the refusal, its name, and the place
 abbrev pub refusal_line : ℕ → ℕ → List ℕ
-refusal_line number place = codes "refused " ++ decimal number ++ codes " NotBuilt at " ++ decimal place ++ codes "\n"
+refusal_line number place = codes "refused " ++ decimal number ++ codes " " ++ refusal_name number ++ codes " at " ++ decimal place ++ codes "\n"
+
+-- the line for words that are not accepted
+abbrev pub words_line : List ℕ
+words_line = codes "refused words\n"

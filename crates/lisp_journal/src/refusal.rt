@@ -1,11 +1,31 @@
 ghost use Rattle.std.specs.Prelude.{◌≡◌, IfOk};
 ghost use Rattle.std.specs.String.{string_bytes};
-ghost use Rattle.lisp_journal.specs.Refusal.{refusal_line};
+ghost use Rattle.lisp_journal.specs.Refusal.{refusal_line, refusal_name, words_line};
 
 use crate::journal::push_decimal;
 use lisp_base::id::Place;
 use lisp_base::memory::Memory;
 use std::alloc::Global;
+
+/// The line for words that are not accepted.
+pub fn refused_words() -> &'static str
+    ensures { result.now ≡ words_line }
+{
+    "refused words\n"
+}
+
+/// The name of the refusal with this number.
+fn name_of(number: u32) -> &'static str
+    ensures { result.now ≡ refusal_name number }
+{
+    match number {
+        2 => "EndInside",
+        3 => "UnmatchedClose",
+        7 => "TooLong",
+        10 => "NotBuilt",
+        _ => "?",
+    }
+}
 
 /// The line for a program that is refused: the number of the refusal, its name, and the place.
 pub fn write_refusal(alloc: Global, number: u32, place: Place) -> Result<String, Memory>
@@ -13,7 +33,9 @@ pub fn write_refusal(alloc: Global, number: u32, place: Place) -> Result<String,
 {
     let mut text = String::from_str(alloc, "refused ")?;
     push_decimal(alloc, &mut text, u64::from(number))?;
-    text.push_str(" NotBuilt at ")?;
+    text.push_str(" ")?;
+    text.push_str(name_of(number))?;
+    text.push_str(" at ")?;
     push_decimal(alloc, &mut text, u64::from(place.0))?;
     text.push_str("\n")?;
     Ok(text)

@@ -1,5 +1,5 @@
 -- Programs as forests of core forms, and the same written flat, in preorder.
-use Rattle.std.specs.Prelude.{ℕ, List, [], ◌∷◌, ◌++◌}
+use Rattle.std.specs.Prelude.{List, [], ◌∷◌, ◌++◌}
 use Rattle.lisp_base.specs.Forest.{Forest, NoTrees, Tree, count_of, front, behind}
 use Rattle.lisp_program.specs.declared.form.CoreKind.{CoreKind}
 use Rattle.lisp_program.specs.declared.form.FormNode.{FormNode}

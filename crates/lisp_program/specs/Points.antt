@@ -1,6 +1,6 @@
 -- The points of each form, in order.
 use Rattle.std.specs.Prelude.{ℕ, List, [], ◌∷◌}
-use Rattle.lisp_base.specs.Forest.{Forest, NoTrees, Tree}
+use Rattle.lisp_base.specs.Forest.{NoTrees, Tree}
 use Rattle.lisp_base.specs.declared.value.Node.{Node}
 use Rattle.lisp_base.specs.declared.value.Node.TheVariants.{Symbol}
 use Rattle.lisp_program.specs.declared.act.Act.{Act}
@@ -8,7 +8,7 @@ use Rattle.lisp_program.specs.declared.act.Act.TheVariants.{Push, Discard, Add}
 use Rattle.lisp_program.specs.declared.act.Question.{Question}
 use Rattle.lisp_program.specs.declared.act.Question.TheVariants.{Print as AskPrint, EndThread}
 use Rattle.lisp_program.specs.declared.form.CoreKind.{CoreKind}
-use Rattle.lisp_program.specs.declared.form.CoreKind.TheVariants.{Constant, Plus, Print}
+use Rattle.lisp_program.specs.declared.form.CoreKind.TheVariants.{Constant, Plus, Print, Progn}
 use Rattle.lisp_program.specs.Forms.{Forms}
 
 -- NIL is the symbol 0
@@ -48,6 +48,8 @@ table (Constant v) p fs = Do (Push v) p Done
 table Plus p fs = joined (all_of fs) (Do Add p Done)
 -- `print`: its argument, and the operation `out`
 table Print p fs = joined (all_of fs) (Ask AskPrint p Done)
+-- `progn`: its forms as a body
+table Progn p fs = body_of p fs
 
 -- the points of each form
 abbrev pub points_of : Forms → List Points

@@ -10,6 +10,7 @@ pub enum CoreKind {
     Constant(Value),
     Plus,
     Print,
+    Progn,
 }
 
 /// One form of a program in preorder: its kind, its place, and how many forms stand directly under it.

@@ -19,7 +19,7 @@ use Rattle.lisp_reader.specs.declared.token.Token.{Token}
 use Rattle.lisp_reader.specs.declared.token.TokenKind.{TokenKind}
 use Rattle.lisp_reader.specs.declared.token.TokenKind.TheVariants.{Open, Close, Known, Unknown}
 use Rattle.lisp_reader.specs.declared.token.Word.{Word}
-use Rattle.lisp_reader.specs.declared.token.Word.TheVariants.{Number, Plus, Print}
+use Rattle.lisp_reader.specs.declared.token.Word.TheVariants.{Number, Plus, Print, Progn}
 
 -- data in front of data
 abbrev pub before : Data → Data → Data
@@ -76,6 +76,7 @@ unled_word p None beside later = refl
 unled_word p (Some (Number n)) beside later = refl
 unled_word p (Some Plus) beside later = refl
 unled_word p (Some Print) beside later = refl
+unled_word p (Some Progn) beside later = refl
 
 pub unled_misplaced : (d : Data) (later : Option ℕ)
     → or_else (front_misplaced (front_of d)) (or_else (misplaced true d) later) ≡ or_else (misplaced false d) later
@@ -97,6 +98,7 @@ word_shows_by p None d es = rw (add-one (items_of d)) refl
 word_shows_by p (Some (Number n)) d es = rw (add-one (items_of d), add-one (count_of (forms_in d)), unled_misplaced d (misplaced_of es)) refl
 word_shows_by p (Some Plus) d es = rw (add-one (items_of d), unled_misplaced d (misplaced_of es)) refl
 word_shows_by p (Some Print) d es = rw (add-one (items_of d), unled_misplaced d (misplaced_of es)) refl
+word_shows_by p (Some Progn) d es = rw (add-one (items_of d), unled_misplaced d (misplaced_of es)) refl
 
 word_shows : (p : ℕ) (letters : List ℕ) (d : Data) (es : List Data)
     → moved (kind_of (word_of letters)) p (shown d es) ≡ shown (Word' p letters d) es
@@ -130,6 +132,7 @@ list_counts p None u d = omega (arith, count-joined u d)
 list_counts p (Some (Number n)) u d = omega (arith, count-joined u d)
 list_counts p (Some Plus) u d = add-one (count_of d)
 list_counts p (Some Print) u d = add-one (count_of d)
+list_counts p (Some Progn) u d = add-one (count_of d)
 
 list_nodes : (p : ℕ) (w : Option Word) (u d : Forms) (ns : List FormNode)
     → with_list p (form_kind w) (count_of u) (preorder u ++ (preorder d ++ ns)) ≡ preorder (list_form p w u d) ++ ns
@@ -137,11 +140,17 @@ list_nodes p None u d ns = rw (preorder-joined u d, append_assoc) refl
 list_nodes p (Some (Number n)) u d ns = rw (preorder-joined u d, append_assoc) refl
 list_nodes p (Some Plus) u d ns = rw (append_assoc (preorder u) (preorder d) ns) refl
 list_nodes p (Some Print) u d ns = rw (append_assoc (preorder u) (preorder d) ns) refl
+list_nodes p (Some Progn) u d ns = rw (append_assoc (preorder u) (preorder d) ns) refl
 
 or_place : (b : Bool) (p : ℕ) (inside later : Option ℕ)
     → cond b (or_else inside later) (Some p) ≡ or_else (cond b inside (Some p)) later
 or_place true p inside later = refl
 or_place false p inside later = refl
+
+place_or : (b : Bool) (p : ℕ) (inside later : Option ℕ)
+    → cond b (Some p) (or_else inside later) ≡ or_else (cond b (Some p) inside) later
+place_or true p inside later = refl
+place_or false p inside later = refl
 
 list_places : (p : ℕ) (w : Option Word) (items : ℕ) (inside later : Option ℕ)
     → list_misplaced p w items (or_else inside later) ≡ or_else (list_misplaced p w items inside) later
@@ -149,6 +158,7 @@ list_places p None items inside later = refl
 list_places p (Some (Number n)) items inside later = refl
 list_places p (Some Plus) items inside later = or_place (items == 3) p inside later
 list_places p (Some Print) items inside later = or_place (items == 2) p inside later
+list_places p (Some Progn) items inside later = place_or (items == 1) p inside later
 
 open_shows : (p q : ℕ) (u d : Data) (es : List Data) → moved Open p (shown u (d ∷ es)) ≡ shown (Nested p q u d) es
 open_shows p q u d es =
@@ -200,6 +210,7 @@ moved_total Close p b = rw (sum_by-cons group_total b.inner b.outer) (omega arit
 moved_total (Known (Number n)) p b = omega arith
 moved_total (Known Plus) p b = omega arith
 moved_total (Known Print) p b = omega arith
+moved_total (Known Progn) p b = omega arith
 moved_total Unknown p b = omega arith
 
 pub built_total : (ts : List Token) → total (built ts) ≤ length ts + length ts

@@ -1,5 +1,5 @@
 -- A text without a fault spells data, and all data that it spells stands for the same forms.
-use Rattle.std.proofs.Common.{◌≡◌, ℕ, suc, ◌≤◌, ◌==◌, Bool, true, false, cond, List, [], ◌∷◌, ◌++◌, length, map, Option, Some, None, is_some, refl, ap, sym, ◌∙◌, append_assoc, append-nil}
+use Rattle.std.proofs.Common.{◌≡◌, ℕ, suc, ◌≤◌, ◌==◌, Bool, true, false, cond, List, [], ◌∷◌, ◌++◌, length, map, Option, Some, None, is_some, refl, ap, sym, ◌∙◌, append_assoc, append-nil, arith}
 use Rattle.lisp_base.specs.Forest.{NoTrees, Tree, behind, count_of, front, joined}
 use Rattle.lisp_program.specs.Forms.{Forms, forms_of, preorder}
 use Rattle.lisp_program.specs.declared.form.FormNode.{FormNode}
@@ -8,10 +8,10 @@ use Rattle.lisp_reader.proofs.Following.{fault_of_pieces}
 use Rattle.lisp_reader.specs.Build.{built, finished}
 use Rattle.lisp_reader.specs.Faults.{fault_from}
 use Rattle.lisp_reader.specs.declared.build.Built.{Built}
-use Rattle.lisp_reader.specs.Reading.{OneReading}
+use Rattle.lisp_reader.specs.Reading.{IsRefused, too_long, in_reading, in_place, fault_number, fault_place, OneReading, ReadOrRefused, OneRefusal}
 use Rattle.lisp_reader.specs.Tokens.{token_of}
 use Rattle.lisp_reader.specs.declared.token.Token.{Token}
-use Rattle.lisp_reader.specs.Grammar.{Data, NoData, Word', Nested, spelling, fault_in, forms_in, misplaced, or_else, Reads}
+use Rattle.lisp_reader.specs.Grammar.{Data, NoData, Word', Nested, spelling, fault_in, forms_in, misplaced, or_else, longest, Reads}
 use Rattle.lisp_reader.specs.Pieces.{Piece, Opening, Closing, Letters, pieces_from}
 use Rattle.lisp_reader.specs.Words.{word_of}
 use Rattle.lisp_reader.specs.declared.fault.ReadFault.{ReadFault}
@@ -26,10 +26,6 @@ record IsSpelled (opens : List ℕ) (ps : List Piece) : Type 0 where
   rest : List (ℕ × Data)
   many : length rest ≡ length opens
   spelled : ps ≡ spelling under ++ spellings rest
-
-is_none : (f : Option ReadFault) → is_some f ≡ false → f ≡ None
-is_none None h = refl
-is_none (Some f) h = cc
 
 -- a choice without a fault
 no_fault_first : (b : Bool) (f : ReadFault) (later : Option ReadFault) → cond b (Some f) later ≡ None → later ≡ None
@@ -119,7 +115,7 @@ alone : (ps : List Piece) (under : Data) (rest : List (ℕ × Data)) → length 
 alone ps under [] many h = sym (h ∙ append-nil (spelling under))
 alone ps under (r ∷ rs) many h = cc
 
-pub reads : (bytes : List ℕ) → length bytes ≤ 4096 → fault_in [] (pieces_from 0 bytes) ≡ None
+pub reads : (bytes : List ℕ) → length bytes ≤ longest → fault_in [] (pieces_from 0 bytes) ≡ None
     → (finished (built (tokens_of bytes))).misplaced ≡ None → Reads bytes (forms_of (built (tokens_of bytes)).nodes)
 reads bytes short readable placed =
     let r : IsSpelled [] (pieces_from 0 bytes) = spells [] (pieces_from 0 bytes) readable in
@@ -146,35 +142,65 @@ text_nodes bytes readable =
     ap preorder (text_forms bytes r.under is) ∙ sym (append-nil (preorder (forms_in r.under))) ∙ sym (ap (λ b. b.nodes) (text_builds bytes r.under is))
 
 -- what the reader answers, from what its passes say
-no_fault : (bytes : List ℕ) (tokens : List Token) (fault : Option ReadFault) → tokens ≡ tokens_of bytes
-    → fault ≡ fault_from [] tokens → is_some fault ≡ false → fault_in [] (pieces_from 0 bytes) ≡ None
-no_fault bytes tokens fault is found none =
-    sym (fault_of_pieces [] (pieces_from 0 bytes)) ∙ ap (fault_from []) (sym is) ∙ sym found ∙ is_none fault none
+no_fault : (bytes : List ℕ) (tokens : List Token) → tokens ≡ tokens_of bytes → None ≡ fault_from [] tokens
+    → fault_in [] (pieces_from 0 bytes) ≡ None
+no_fault bytes tokens is none =
+    sym (fault_of_pieces [] (pieces_from 0 bytes)) ∙ ap (fault_from []) (sym is) ∙ sym none
 
-pub reads_whole : (bytes : List ℕ) (tokens : List Token) (fault : Option ReadFault) (b : Built) → tokens ≡ tokens_of bytes
-    → fault ≡ fault_from [] tokens → is_some fault ≡ false → b ≡ finished (built tokens) → preorder (forms_of b.program) ≡ b.program
-reads_whole bytes tokens fault b is found none made =
+pub reads_whole : (bytes : List ℕ) (tokens : List Token) (b : Built) → tokens ≡ tokens_of bytes → None ≡ fault_from [] tokens
+    → b ≡ finished (built tokens) → preorder (forms_of b.program) ≡ b.program
+reads_whole bytes tokens b is none made =
     let all : b ≡ finished (built (tokens_of bytes)) = made ∙ ap (λ ts. finished (built ts)) is in
-    rw all (text_nodes bytes (no_fault bytes tokens fault is found none))
+    rw all (text_nodes bytes (no_fault bytes tokens is none))
 
-pub reads_forms : (bytes : List ℕ) (tokens : List Token) (fault : Option ReadFault) (b : Built) → length bytes ≤ 4096
-    → tokens ≡ tokens_of bytes → fault ≡ fault_from [] tokens → is_some fault ≡ false → b ≡ finished (built tokens) → b.misplaced ≡ None
-    → Reads bytes (forms_of b.program)
-reads_forms bytes tokens fault b short is found none made placed =
-    let clear : fault_in [] (pieces_from 0 bytes) ≡ None = no_fault bytes tokens fault is found none in
+pub reads_forms : (bytes : List ℕ) (tokens : List Token) (b : Built) → length bytes ≤ longest → tokens ≡ tokens_of bytes
+    → None ≡ fault_from [] tokens → b ≡ finished (built tokens) → b.misplaced ≡ None → Reads bytes (forms_of b.program)
+reads_forms bytes tokens b short is none made placed =
+    let clear : fault_in [] (pieces_from 0 bytes) ≡ None = no_fault bytes tokens is none in
     let all : b ≡ finished (built (tokens_of bytes)) = made ∙ ap (λ ts. finished (built ts)) is in
     rw all (reads bytes short clear (ap (λ x. x.misplaced) (sym all) ∙ placed))
 
-pub refuses_fault : (bytes : List ℕ) (tokens : List Token) (fault : Option ReadFault) → tokens ≡ tokens_of bytes
-    → fault ≡ fault_from [] tokens → is_some fault ≡ true → (forms : Forms) → Reads bytes forms → ⊥
-refuses_fault bytes tokens fault is found some forms r =
-    let clear : fault ≡ None = found ∙ ap (fault_from []) is ∙ fault_of_pieces [] (pieces_from 0 bytes) ∙ r.readable in
-    let no : false ≡ true = ap is_some (sym clear) ∙ some in
-    cc
+pub refuses_fault : (bytes : List ℕ) (tokens : List Token) (fault : ReadFault) → length bytes ≤ longest → tokens ≡ tokens_of bytes
+    → Some fault ≡ fault_from [] tokens → IsRefused bytes (fault_number fault) (fault_place fault)
+refuses_fault bytes tokens fault short is found =
+    let first : fault_in [] (pieces_from 0 bytes) ≡ Some fault =
+    sym (fault_of_pieces [] (pieces_from 0 bytes)) ∙ ap (fault_from []) (sym is) ∙ sym found in
+    in_reading fault short first refl refl
 
-pub refuses_misplaced : (bytes : List ℕ) (tokens : List Token) (b : Built) (place : ℕ) → tokens ≡ tokens_of bytes
-    → b ≡ finished (built tokens) → b.misplaced ≡ Some place → (forms : Forms) → Reads bytes forms → ⊥
-refuses_misplaced bytes tokens b place is made misplaced' forms r =
+pub refuses_misplaced : (bytes : List ℕ) (tokens : List Token) (b : Built) (place : ℕ) → length bytes ≤ longest
+    → tokens ≡ tokens_of bytes → None ≡ fault_from [] tokens → b ≡ finished (built tokens) → b.misplaced ≡ Some place
+    → IsRefused bytes 10 place
+refuses_misplaced bytes tokens b place short is none made misplaced' =
+    let clear : fault_in [] (pieces_from 0 bytes) ≡ None = no_fault bytes tokens is none in
     let all : b ≡ finished (built (tokens_of bytes)) = made ∙ ap (λ ts. finished (built ts)) is in
-    let no : Some place ≡ None = sym misplaced' ∙ ap (λ x. x.misplaced) all ∙ text_misplaced bytes r.data' r.spelled ∙ r.placed in
-    cc
+    let r : IsSpelled [] (pieces_from 0 bytes) = spells [] (pieces_from 0 bytes) clear in
+    let spelled : spelling r.under ≡ pieces_from 0 bytes = alone _ r.under r.rest r.many r.spelled in
+    let here : misplaced false r.under ≡ Some place =
+    sym (text_misplaced bytes r.under spelled) ∙ ap (λ x. x.misplaced) (sym all) ∙ misplaced' in
+    in_place r.under short spelled clear here refl
+
+-- the laws of refusals
+one_misplaced : (bytes : List ℕ) (d e : Data) → spelling d ≡ pieces_from 0 bytes → spelling e ≡ pieces_from 0 bytes
+    → misplaced false d ≡ misplaced false e
+one_misplaced bytes d e is also = sym (text_misplaced bytes d is) ∙ text_misplaced bytes e also
+
+pub read_or_refused : ReadOrRefused
+read_or_refused bytes forms number place r (too_long long is at) = absurd (omega (arith, r.short))
+read_or_refused bytes forms number place r (in_reading fault short found is at) = cc (r.readable)
+read_or_refused bytes forms number place r (in_place d short spelled readable found is) =
+    cc (r.placed, one_misplaced bytes d r.data' spelled r.spelled)
+
+pub one_refusal : OneRefusal
+one_refusal bytes m n p q (too_long long is at) (too_long long' is' at') = ((cc), (cc))
+one_refusal bytes m n p q (too_long long is at) (in_reading fault short found is' at') = absurd (omega arith)
+one_refusal bytes m n p q (too_long long is at) (in_place d short spelled readable found is') = absurd (omega arith)
+one_refusal bytes m n p q (in_reading fault short found is at) (too_long long is' at') = absurd (omega arith)
+one_refusal bytes m n p q (in_reading fault short found is at) (in_reading fault' short' found' is' at') =
+    let same : fault ≡ fault' = cc in
+    (is ∙ ap fault_number same ∙ sym is', at ∙ ap fault_place same ∙ sym at')
+one_refusal bytes m n p q (in_reading fault short found is at) (in_place d short' spelled readable found' is') = cc
+one_refusal bytes m n p q (in_place d short spelled readable found is) (too_long long is' at') = absurd (omega arith)
+one_refusal bytes m n p q (in_place d short spelled readable found is) (in_reading fault short' found' is' at') = cc
+one_refusal bytes m n p q (in_place d short spelled readable found is) (in_place e short' spelled' readable' found' is') =
+    let same : misplaced false d ≡ misplaced false e = one_misplaced bytes d e spelled spelled' in
+    ((cc), (cc))

@@ -2,7 +2,7 @@
 use Rattle.std.specs.Prelude.{ℕ, ◌+◌, pos, List, [], ◌∷◌, Option, Some, None, false, sum_by}
 use Rattle.lisp_base.specs.declared.value.Node.TheVariants.{Int}
 use Rattle.lisp_program.specs.declared.form.CoreKind.{CoreKind}
-use Rattle.lisp_program.specs.declared.form.CoreKind.TheVariants.{Constant, Plus as PlusForm, Print as PrintForm}
+use Rattle.lisp_program.specs.declared.form.CoreKind.TheVariants.{Constant, Plus as PlusForm, Print as PrintForm, Progn as PrognForm}
 use Rattle.lisp_program.specs.declared.form.FormNode.{FormNode}
 use Rattle.lisp_reader.specs.declared.build.Builder.{Builder}
 use Rattle.lisp_reader.specs.declared.build.Built.{Built}
@@ -12,7 +12,7 @@ use Rattle.lisp_reader.specs.declared.token.Token.{Token}
 use Rattle.lisp_reader.specs.declared.token.TokenKind.{TokenKind}
 use Rattle.lisp_reader.specs.declared.token.TokenKind.TheVariants.{Open, Close, Known, Unknown}
 use Rattle.lisp_reader.specs.declared.token.Word.{Word}
-use Rattle.lisp_reader.specs.declared.token.Word.TheVariants.{Number, Plus, Print}
+use Rattle.lisp_reader.specs.declared.token.Word.TheVariants.{Number, Plus, Print, Progn}
 use Rattle.lisp_reader.specs.Grammar.{or_else, word_misplaced, list_misplaced}
 use Rattle.lisp_reader.specs.Stack.{top_of, below}
 
@@ -42,6 +42,7 @@ with_constant p (Number n) b =
     }
 with_constant p Plus b = b
 with_constant p Print b = b
+with_constant p Progn b = b
 
 -- one more item in the innermost list, with this in front
 abbrev pub with_item : Option Front → Builder → Builder
@@ -70,6 +71,7 @@ form_kind None = None
 form_kind (Some (Number n)) = None
 form_kind (Some Plus) = Some PlusForm
 form_kind (Some Print) = Some PrintForm
+form_kind (Some Progn) = Some PrognForm
 
 -- how many forms a list gives to the list around it
 abbrev pub forms_given : Option CoreKind → ℕ → ℕ

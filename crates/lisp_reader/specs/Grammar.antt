@@ -3,11 +3,11 @@ use Rattle.std.specs.Prelude.{◌≡◌, ℕ, suc, pos, ◌≤◌, List, [], ◌
 use Rattle.lisp_base.specs.Forest.{NoTrees, Tree, joined}
 use Rattle.lisp_base.specs.declared.value.Node.TheVariants.{Int}
 use Rattle.lisp_program.specs.Forms.{Forms}
-use Rattle.lisp_program.specs.declared.form.CoreKind.TheVariants.{Constant, Plus as PlusForm, Print as PrintForm}
+use Rattle.lisp_program.specs.declared.form.CoreKind.TheVariants.{Constant, Plus as PlusForm, Print as PrintForm, Progn as PrognForm}
 use Rattle.lisp_reader.specs.declared.fault.ReadFault.{ReadFault}
 use Rattle.lisp_reader.specs.declared.fault.ReadFault.TheVariants.{NotBuilt, UnmatchedClose, EndInside}
 use Rattle.lisp_reader.specs.declared.token.Word.{Word}
-use Rattle.lisp_reader.specs.declared.token.Word.TheVariants.{Number, Plus, Print}
+use Rattle.lisp_reader.specs.declared.token.Word.TheVariants.{Number, Plus, Print, Progn}
 use Rattle.lisp_reader.specs.Pieces.{Piece, Opening, Closing, Letters, pieces_from}
 use Rattle.lisp_reader.specs.Words.{word_of}
 
@@ -58,13 +58,15 @@ abbrev pub word_misplaced : Bool → ℕ → Option Word → Option ℕ
 word_misplaced leads p (Some (Number n)) = None
 word_misplaced leads p (Some Plus) = if leads then None else Some p
 word_misplaced leads p (Some Print) = if leads then None else Some p
+word_misplaced leads p (Some Progn) = if leads then None else Some p
 word_misplaced leads p None = Some p
 
--- A list has an operator in front, and as many arguments as that takes: `+` two, `print` one. Where it has,
--- what is misplaced inside it counts.
+-- A list has an operator in front, and as many arguments as that takes: `+` two, `print` one, `progn` one or more.
+-- Where it has, what is misplaced inside it counts.
 abbrev pub list_misplaced : ℕ → Option Word → ℕ → Option ℕ → Option ℕ
 list_misplaced p (Some Plus) items inside = if items == 3 then inside else Some p
 list_misplaced p (Some Print) items inside = if items == 2 then inside else Some p
+list_misplaced p (Some Progn) items inside = if items == 1 then Some p else inside
 list_misplaced p (Some (Number n)) items inside = Some p
 list_misplaced p None items inside = Some p
 
@@ -80,12 +82,14 @@ abbrev pub word_form : ℕ → Option Word → Forms → Forms
 word_form p (Some (Number n)) beside = Tree (Constant (Int (pos n))) p NoTrees beside
 word_form p (Some Plus) beside = beside
 word_form p (Some Print) beside = beside
+word_form p (Some Progn) beside = beside
 word_form p None beside = beside
 
 -- a list is the form of its operator; what a list without one gives does not matter, since it is misplaced
 abbrev pub list_form : ℕ → Option Word → Forms → Forms → Forms
 list_form p (Some Plus) under beside = Tree PlusForm p under beside
 list_form p (Some Print) under beside = Tree PrintForm p under beside
+list_form p (Some Progn) under beside = Tree PrognForm p under beside
 list_form p (Some (Number n)) under beside = joined under beside
 list_form p None under beside = joined under beside
 
@@ -97,7 +101,7 @@ forms_in (Nested p q under beside) = list_form p (word_in_front under) (forms_in
 
 -- the greatest length of a program, in bytes
 abbrev pub longest : ℕ
-longest = 4096
+longest = 1048576
 
 -- The text is a program that reads as these forms: it is short enough, its pieces spell data without a fault
 -- in the order of reading, nothing in it is misplaced, and it stands for these forms.

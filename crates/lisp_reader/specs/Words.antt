@@ -4,7 +4,7 @@ use Rattle.std.specs.List.{list_all}
 use Rattle.std.specs.Str.{bytes_eq}
 use Rattle.std.specs.Str.Parse.{digits_value}
 use Rattle.lisp_reader.specs.declared.token.Word.{Word}
-use Rattle.lisp_reader.specs.declared.token.Word.TheVariants.{Number, Plus, Print}
+use Rattle.lisp_reader.specs.declared.token.Word.TheVariants.{Number, Plus, Print, Progn}
 
 -- 0 to 9
 abbrev pub is_digit : ℕ → Bool
@@ -20,4 +20,5 @@ word_of letters =
     if is_number letters then Some (Number (digits_value 10 letters))
     else if bytes_eq letters (codes "+") then Some Plus
     else if bytes_eq letters (codes "print") then Some Print
+    else if bytes_eq letters (codes "progn") then Some Progn
     else None

@@ -1,6 +1,8 @@
 ghost use Rattle.std.specs.Prelude.{◌≡◌, [], IfOk, OnOk};
 ghost use Rattle.lisp_reader.specs.Faults.{fault_by, fault_from, opens_by};
+ghost use Rattle.lisp_reader.specs.Reading.{fault_number, fault_place};
 
+use crate::refusal::{END_INSIDE, NOT_BUILT, ReadRefusal, UNMATCHED_CLOSE};
 use crate::stack::Stack;
 use crate::token::{Token, TokenKind};
 use lisp_base::id::Place;
@@ -16,6 +18,20 @@ pub enum ReadFault {
     UnmatchedClose(Place),
     /// The text ends inside the list that begins here.
     EndInside(Place),
+}
+
+impl ReadFault {
+    /// The refusal of a text whose first fault this is.
+    pub fn refusal(self) -> ReadRefusal
+        ensures { result ≡ ReadRefusal.Refused (fault_number self) (fault_place self) }
+    {
+        let (number, place) = match self {
+            ReadFault::NotBuilt(place) => (NOT_BUILT, place),
+            ReadFault::UnmatchedClose(place) => (UNMATCHED_CLOSE, place),
+            ReadFault::EndInside(place) => (END_INSIDE, place),
+        };
+        ReadRefusal::Refused { number, place }
+    }
 }
 
 /// Lists are nested so deep at most.

@@ -4,6 +4,18 @@ ghost use Rattle.lisp_reader.specs.declared.refusal.ReadRefusal.TheVariants.{Mem
 use lisp_base::id::Place;
 use lisp_base::memory;
 
+/// The text ends inside a list.
+pub const END_INSIDE: u32 = 2;
+
+/// A closing parenthesis closes nothing.
+pub const UNMATCHED_CLOSE: u32 = 3;
+
+/// The text is past the limit.
+pub const TOO_LONG: u32 = 7;
+
+/// A word is not known, a list is too deep, or something stands where it may not.
+pub const NOT_BUILT: u32 = 10;
+
 /// Why a program is not read.
 #[derive(Clone, Copy, Debug, PartialEq, Eq)]
 pub enum ReadRefusal {

@@ -25,6 +25,7 @@ pub fn form_kind(word: Option<Word>) -> Option<CoreKind>
     match word {
         Some(Word::Plus) => Some(CoreKind::Plus),
         Some(Word::Print) => Some(CoreKind::Print),
+        Some(Word::Progn) => Some(CoreKind::Progn),
         Some(Word::Number(_)) => None,
         None => None,
     }
@@ -42,6 +43,7 @@ pub fn list_fault(
     match word {
         Some(Word::Plus) if items == 3 => inside,
         Some(Word::Print) if items == 2 => inside,
+        Some(Word::Progn) if items != 1 => inside,
         _ => Some(place),
     }
 }
@@ -54,5 +56,6 @@ pub fn word_fault(place: Place, word: Word) -> Option<Place>
         Word::Number(_) => None,
         Word::Plus => Some(place),
         Word::Print => Some(place),
+        Word::Progn => Some(place),
     }
 }

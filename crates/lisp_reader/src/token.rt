@@ -6,6 +6,7 @@ pub enum Word {
     Number(u32),
     Plus,
     Print,
+    Progn,
 }
 
 /// What a token is.

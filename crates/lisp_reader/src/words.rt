@@ -37,5 +37,8 @@ pub fn word_kind(letters: &[u8]) -> TokenKind
     if letters == b"print".as_slice() {
         return TokenKind::Known(Word::Print);
     }
+    if letters == b"progn".as_slice() {
+        return TokenKind::Known(Word::Progn);
+    }
     TokenKind::Unknown
 }

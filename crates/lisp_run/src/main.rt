@@ -1,20 +1,50 @@
 //! Runs a Lisp program from standard input, and writes its journal and report to standard output.
 #![tactic(auto)]
 
+use lisp_base::memory::Memory;
 use lisp_edge::clock::VirtualClock;
 use lisp_edge::gate::OpenGate;
 use lisp_edge::standard::{StdSink, StdSource};
 use lisp_session::top::run_top;
+use std::env;
+use std::io::ErrorKind;
 use std::process::ExitCode;
+use std::rt::Env;
+
+/// What stands for words that are no text.
+const NO_TEXT: &str = "\u{fffd}";
+
+/// The status where the words find no memory.
+const NO_MEMORY: u8 = 7;
+
+/// The words of the command line, without the program's name. Where one of them is no UTF-8, a single word stands for
+/// all, which is no accepted list either.
+fn words<R: Env + AllocGlobal>(rt: &R) -> Result<Vec<String>, Memory> {
+    let mut words = Vec::new(rt.alloc());
+    match env::args(rt) {
+        Ok(all) => {
+            for word in all.skip(1) {
+                words.push(word)?;
+            }
+        }
+        Err(error) if error.kind() == ErrorKind::InvalidData => {
+            words.push(String::from_str(rt.alloc(), NO_TEXT)?)?;
+        }
+        Err(_) => return Err(Memory),
+    }
+    Ok(words)
+}
 
 fn main(rt: HostRuntime) -> ExitCode {
-    let words: [String; 0] = [];
+    let Ok(words) = words(&rt) else {
+        return ExitCode::from(NO_MEMORY);
+    };
     let mut source = StdSource::new(rt.stdin());
     let mut sink = StdSink::new(rt.stdout());
     let clock = VirtualClock::new();
     let status = run_top(
         rt.alloc(),
-        &words,
+        words.as_slice(),
         &mut source,
         &mut sink,
         &clock,

@@ -1,5 +1,5 @@
 -- Lists without their first items.
-use Rattle.std.proofs.Common.{◌≡◌, ℕ, zero, suc, ◌+◌, List, [], ◌∷◌, drop, refl, add-one}
+use Rattle.std.proofs.Common.{◌≡◌, ℕ, zero, suc, List, [], ◌∷◌, drop, refl}
 
 -- one more item left out is the first of the rest left out
 pub drop-one_more : {T : Type 0} (at : ℕ) (xs : List T) → drop (suc at) xs ≡ drop 1 (drop at xs)

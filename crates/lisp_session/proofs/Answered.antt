@@ -1,18 +1,15 @@
 -- The text of a run, and what was read for it.
-use Rattle.std.proofs.Common.{◌≡◌, ℕ, ◌+◌, ◌<◌, ◌≤◌, ◌⊎◌, inl, inr, List, [], ◌∷◌, ◌++◌, Bool, true, false, cond, Option, Some, None, length, length-append, take, drop, refl, ap, sym, subst, ◌∙◌, arith, append_assoc}
-use Rattle.std.specs.Io.KnownBytes.{Appends, Keeps, Consumes, IsAtEnd}
-use Rattle.std.specs.String.{string_bytes}
+use Rattle.std.proofs.Common.{◌≡◌, ℕ, inl, inr, List, [], ◌∷◌, ◌++◌, Bool, true, false, cond, refl, ap, sym, subst, ◌∙◌}
 use Rattle.lisp_program.specs.Forms.{Forms}
 use Rattle.world_semantics.specs.declared.entry.Entry.{Entry}
-use Rattle.thread_semantics.specs.State.{ThreadState, Control, At, Exit, Ended}
+use Rattle.thread_semantics.specs.State.{ThreadState}
 use Rattle.run_semantics.specs.declared.report.Report.{Report}
 use Rattle.run_semantics.specs.Run.{RunsAs}
-use Rattle.run_semantics.specs.Report.{status_of, has_ended, report_of}
+use Rattle.run_semantics.specs.Report.{status_of, has_ended}
 use Rattle.lisp_reader.specs.Grammar.{Reads}
 use Rattle.lisp_journal.specs.Journal.{journal_text}
 use Rattle.lisp_journal.specs.Report.{report_text}
-use Rattle.lisp_session.specs.Headline.{steps, IsWhole, IsRunText, IsNoProgram, IsRunStatus}
-use Rattle.lisp_session.specs.Answer.{IsRead, ReadsAsNothing}
+use Rattle.lisp_session.specs.Headline.{steps, IsRunText, IsRunStatus}
 
 -- there are two statuses of a run
 run_status : (threads : List ThreadState) → IsRunStatus (status_of threads)

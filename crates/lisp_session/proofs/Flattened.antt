@@ -1,17 +1,17 @@
 -- What is written of forms so far.
-use Rattle.std.proofs.Common.{◌≡◌, ℕ, zero, suc, ◌+◌, ◌-◌, ◌<◌, ◌≤◌, ◌≢◌, List, [], ◌∷◌, ◌++◌, Bool, true, false, length, take, drop, get_or, refl, ap, sym, subst, ◌∙◌, arith, append_assoc, add-one, drop-cons}
+use Rattle.std.proofs.Common.{◌≡◌, ℕ, zero, suc, ◌+◌, ◌<◌, ◌≤◌, ◌≢◌, ◌⊎◌, inl, inr, List, [], ◌∷◌, ◌++◌, Bool, true, false, length, take, drop, get_or, refl, ap, sym, ◌∙◌, arith, append_assoc, add-one, drop-cons}
 use Rattle.lisp_base.specs.Forest.{Forest, NoTrees, Tree, count_of, front, behind}
 use Rattle.lisp_program.specs.declared.act.Question.TheVariants.{EndThread}
 use Rattle.lisp_program.specs.declared.act.Act.TheVariants.{Push, Discard, Add}
 use Rattle.lisp_program.specs.declared.form.CoreKind.{CoreKind}
-use Rattle.lisp_program.specs.declared.form.CoreKind.TheVariants.{Constant, Plus, Print}
+use Rattle.lisp_program.specs.declared.form.CoreKind.TheVariants.{Constant, Plus, Print, Progn}
 use Rattle.lisp_program.specs.declared.form.FormNode.{FormNode}
 use Rattle.lisp_program.specs.Forms.{Forms, forms_of, node_in_front}
-use Rattle.lisp_program.specs.Points.{Points, Done, Do, Ask, joined, all_of, body_of, points_of, table}
+use Rattle.lisp_program.specs.Points.{Points, Done, Do, Ask, joined, all_of, body_of, points_of, table, nil}
 use Rattle.lisp_session.specs.declared.steps.Step.{Step}
 use Rattle.lisp_session.specs.declared.steps.Step.TheVariants.{Act, Ask as AskStep}
 use Rattle.lisp_session.specs.Evaluator.{steps_of}
-use Rattle.lisp_session.specs.Flatten.{strung, Writes, between, is_body, closing_steps}
+use Rattle.lisp_session.specs.Flatten.{strung, Writes, between, body_steps, under_steps, closing_steps}
 
 -- the steps so far, and those of the `left` forms still to come, are all that is to be written
 pub record Writing (nodes : List FormNode) (from count : ℕ) (body : Bool) (old now : List Step) (at left : ℕ) : Type 0 where
@@ -66,12 +66,22 @@ closed_by old s t u e = rw (e, append-nil, append_assoc) refl
 asked_after : (fs : List Points) (last : Points) → steps_of (joined (all_of fs) last) ≡ strung false fs ++ steps_of last
 asked_after fs last = steps_of-joined (all_of fs) last ∙ ap (λ s. s ++ steps_of last) (steps_of-all_of fs)
 
+-- the steps of a body are the same at each place
+body_at : (p q : ℕ) (fs : List Points) → steps_of (body_of p fs) ≡ steps_of (body_of q fs)
+body_at p q [] = refl
+body_at p q (f ∷ []) = refl
+body_at p q (f ∷ (g ∷ fs)) =
+    steps_of-joined f (Do Discard p (body_of p (g ∷ fs)))
+    ∙ ap (λ s. steps_of f ++ (Act Discard ∷ s)) (body_at p q (g ∷ fs))
+    ∙ sym (steps_of-joined f (Do Discard q (body_of q (g ∷ fs))))
+
 -- closing a form completes its steps
 closed_steps : (k : CoreKind) (p : ℕ) (fs : List Points) (old : List Step)
-    → closing_steps k (length old) (old ++ strung (is_body k) fs) ≡ old ++ (steps_of (table k p fs) ++ [])
+    → closing_steps k (length old) (old ++ under_steps k fs) ≡ old ++ (steps_of (table k p fs) ++ [])
 closed_steps (Constant v) p fs old = ap (λ s. s ++ Act (Push v) ∷ []) (take-front old (strung false fs))
 closed_steps Plus p fs old = closed_by old (strung false fs) _ _ (asked_after fs (Do Add p Done))
 closed_steps Print p fs old = closed_by old (strung false fs) _ _ (asked_after fs (table Print p []))
+closed_steps Progn p fs old = ap (λ s. old ++ s) (body_at 0 p fs ∙ sym (append-nil (steps_of (body_of p fs))))
 
 -- the node at a place, and those behind it
 drop-at : (nodes : List FormNode) (at : ℕ) (n : FormNode) → at < length nodes → n ≡ get_or nodes at n → drop at nodes ≡ n ∷ drop (at + 1) nodes
@@ -79,7 +89,7 @@ drop-at nodes at n h is = let e : drop at nodes ≡ get_or nodes at n ∷ drop (
 
 -- the form at a node is written once the forms under it are, and it is closed
 pub form_written : (nodes : List FormNode) (at next : ℕ) (n : FormNode) (old mid new : List Step) → at < length nodes → n ≡ get_or nodes at n
-    → Writes nodes (at + 1) n.parts (is_body n.kind) old mid next → new ≡ closing_steps n.kind (length old) mid → Writes nodes at 1 false old new next
+    → Writes nodes (at + 1) n.parts (under_steps n.kind) old mid next → new ≡ closing_steps n.kind (length old) mid → Writes nodes at 1 (strung false) old new next
 form_written nodes at next n old mid new h is w e =
     let under : Forms = front n.parts (forms_of (drop (at + 1) nodes)) in
     let here : forms_of (drop at nodes) ≡ node_in_front n (forms_of (drop (at + 1) nodes)) = ap forms_of (drop-at nodes at n h is) in
@@ -103,7 +113,7 @@ behind_nothing (suc n) = refl
 
 -- where no node is left, all is written
 pub all_written : (nodes : List FormNode) (from count : ℕ) (body : Bool) (old now : List Step) (at left : ℕ)
-    → Writing nodes from count body old now at left → length nodes ≤ at → Writes nodes from count body old now at
+    → Writing nodes from count body old now at left → length nodes ≤ at → Writes nodes from count (strung body) old now at
 all_written nodes from count body old now at left w h =
     let nothing : drop at nodes ≡ [] = drop_all nodes at h in
     let steps' : now ++ [] ≡ old ++ strung body (points_of (front count (forms_of (drop from nodes)))) = rw (nothing, front_nothing) at w.steps in
@@ -144,7 +154,7 @@ behind-next left (Tree k p under beside) = refl
 
 -- one form more is written, and then the gap before the next
 pub form_more : (nodes : List FormNode) (from count : ℕ) (body : Bool) (old now mid new : List Step) (at next left later : ℕ)
-    → Writing nodes from count body old now at left → left ≡ suc later → at < length nodes → Writes nodes at 1 false now mid next → at < next
+    → Writing nodes from count body old now at left → left ≡ suc later → at < length nodes → Writes nodes at 1 (strung false) now mid next → at < next
     → new ≡ mid ++ between body later (drop next nodes) → Writing nodes from count body old new next later
 form_more nodes from count body old now mid new at next left later w l h f on e =
     let all : now ++ strung body (points_of (front (suc later) (forms_of (drop at nodes)))) ≡ old ++ strung body (points_of (front count (forms_of (drop from nodes)))) =
@@ -179,15 +189,50 @@ strung_body p f [] = refl
 strung_body p f (g ∷ fs) =
     ap (λ s. steps_of f ++ (Act Discard ∷ s)) (strung_body p g fs) ∙ sym (steps_of-joined f (Do Discard p (body_of p (g ∷ fs))))
 
-main_by : (f : Forms) (now : List Step) → f ≢ NoTrees → now ≡ strung true (points_of f) → now ++ AskStep EndThread ∷ [] ≡ steps_of (joined (body_of 0 (points_of f)) (Ask EndThread 0 Done))
-main_by NoTrees now some e = absurd (some refl)
-main_by (Tree k p under beside) now some e =
-    rw (e, strung_body 0 (table k p (points_of under)) (points_of beside)) (sym (steps_of-joined (body_of 0 (points_of (Tree k p under beside))) (Ask EndThread 0 Done)))
+-- no form is wanted, or there
+nothing_at : (nodes : List FormNode) (from count : ℕ) → (count ≡ 0) ⊎ (length nodes ≤ from) → front count (forms_of (drop from nodes)) ≡ NoTrees
+nothing_at nodes from count (inl e) = rw e refl
+nothing_at nodes from count (inr h) = rw (drop_all nodes from h) (front_nothing count)
+
+behind_at : (nodes : List FormNode) (from count : ℕ) → (count ≡ 0) ⊎ (length nodes ≤ from) → behind count (forms_of (drop from nodes)) ≡ forms_of (drop from nodes)
+behind_at nodes from count (inl e) = rw e refl
+behind_at nodes from count (inr h) = rw (drop_all nodes from h) (behind_nothing count)
+
+-- a body without a form is NIL
+pub nil_written : (nodes : List FormNode) (from count : ℕ) (old new : List Step) → from ≤ length nodes → (count ≡ 0) ⊎ (length nodes ≤ from)
+    → new ≡ old ++ Act (Push nil) ∷ [] → Writes nodes from count body_steps old new from
+nil_written nodes from count old new within none e =
+    let empty : front count (forms_of (drop from nodes)) ≡ NoTrees = nothing_at nodes from count none in
+    record { after = omega arith; within = within; steps = rw empty e; rest = sym (behind_at nodes from count none) }
+
+pub none_wanted : (nodes : List FormNode) (from count : ℕ) (old new : List Step) → from ≤ length nodes → count ≡ 0
+    → new ≡ old ++ Act (Push nil) ∷ [] → Writes nodes from count body_steps old new from
+none_wanted nodes from count old new within none e = nil_written nodes from count old new within (inl none) e
+
+pub none_there : (nodes : List FormNode) (from count : ℕ) (old new : List Step) → from ≤ length nodes → from ≡ length nodes
+    → new ≡ old ++ Act (Push nil) ∷ [] → Writes nodes from count body_steps old new from
+none_there nodes from count old new within none e = nil_written nodes from count old new within (inr (omega arith)) e
+
+strung_forms : (n : ℕ) (f : Forms) → f ≢ NoTrees → strung true (points_of (front (suc n) f)) ≡ body_steps (points_of (front (suc n) f))
+strung_forms n NoTrees some = absurd (some refl)
+strung_forms n (Tree k p under beside) some = strung_body 0 (table k p (points_of under)) (points_of (front n beside))
+
+-- a body with a form is its forms in turn
+pub body_written : (nodes : List FormNode) (from count : ℕ) (old new : List Step) (next : ℕ) → 0 < count → from < length nodes
+    → Writes nodes from count (strung true) old new next → Writes nodes from count body_steps old new next
+body_written nodes from zero old new next some h w = absurd (omega arith)
+body_written nodes from (suc n) old new next some h w =
+    record {
+      after = w.after;
+      within = w.within;
+      steps = w.steps ∙ ap (λ s. old ++ s) (strung_forms n (forms_of (drop from nodes)) (some_form nodes from h));
+      rest = w.rest;
+    }
 
 -- all forms of main are written, and its end
-pub main_written : (nodes : List FormNode) (now new : List Step) (next : ℕ) → 0 < length nodes → Writes nodes 0 (length nodes) true [] now next
+pub main_written : (nodes : List FormNode) (now new : List Step) (next : ℕ) → Writes nodes 0 (length nodes) body_steps [] now next
     → new ≡ now ++ AskStep EndThread ∷ [] → new ≡ steps_of (joined (body_of 0 (points_of (forms_of nodes))) (Ask EndThread 0 Done))
-main_written nodes now new next h w e =
-    let whole : now ≡ strung true (points_of (forms_of nodes)) =
-    w.steps ∙ ap (λ f. strung true (points_of f)) (front-all (length nodes) (forms_of nodes) (count-forms_of nodes)) in
-    e ∙ main_by (forms_of nodes) now (some_form nodes 0 h) whole
+main_written nodes now new next w e =
+    let whole : now ≡ body_steps (points_of (forms_of nodes)) =
+    w.steps ∙ ap (λ f. body_steps (points_of f)) (front-all (length nodes) (forms_of nodes) (count-forms_of nodes)) in
+    e ∙ ap (λ s. s ++ AskStep EndThread ∷ []) whole ∙ sym (steps_of-joined (body_of 0 (points_of (forms_of nodes))) (Ask EndThread 0 Done))

@@ -1,18 +1,15 @@
 -- The evaluator's steps are those of the state that it stands for.
-use Rattle.std.proofs.Common.{◌≡◌, ℕ, suc, ◌+◌, List, [], ◌∷◌, drop, refl, ap, sym, subst, arith, Some, None, Result, Ok, Err, add-one}
+use Rattle.std.proofs.Common.{◌≡◌, ℕ, suc, ◌+◌, List, [], refl, sym, subst, arith, Some, Result, Ok, Err}
 use Rattle.lisp_base.specs.declared.condition.Class.{Class}
 use Rattle.lisp_base.specs.declared.value.Node.{Node}
 use Rattle.lisp_program.specs.declared.act.Act.{Act}
-use Rattle.lisp_program.specs.declared.act.Question.{Question}
 use Rattle.lisp_program.specs.Points.{Points, Done, Do, Ask}
-use Rattle.thread_semantics.specs.State.{Target, Base, Control, At, Exit, Ended, Frame, ThreadState}
-use Rattle.thread_semantics.specs.Step.{acted, act_step, step_by, result_of, next_by, next_in, next_of, local_step_of}
-use Rattle.thread_semantics.specs.declared.next.Next.{Next}
-use Rattle.thread_semantics.specs.declared.next.Next.TheVariants.{Local, Operation, Nothing}
+use Rattle.thread_semantics.specs.State.{Base, Control, At, Exit, Ended, ThreadState}
+use Rattle.thread_semantics.specs.Step.{acted, step_by, result_of, next_by, next_of, local_step_of}
+use Rattle.thread_semantics.specs.declared.next.Next.TheVariants.{Local}
 use Rattle.lisp_session.specs.Lists.{front_of}
-use Rattle.lisp_session.specs.Evaluator.{steps_of, shown_at, Stands, shown_after}
-use Rattle.lisp_session.specs.declared.steps.Step.{Step}
-use Rattle.lisp_session.specs.declared.steps.Step.TheVariants.{Act as ActStep, Ask as AskStep}
+use Rattle.lisp_session.specs.Evaluator.{shown_at, Stands, shown_after}
+use Rattle.lisp_session.specs.declared.steps.Step.TheVariants.{Act as ActStep}
 use Rattle.lisp_session.specs.declared.evaluator.Evaluator.{Evaluator}
 
 -- what an act gives, in the state and in the evaluator

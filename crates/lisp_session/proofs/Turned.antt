@@ -1,10 +1,9 @@
 -- A turn keeps what a run keeps.
-use Rattle.std.proofs.Common.{◌≡◌, ℕ, zero, suc, ◌+◌, ◌-◌, ◌<◌, ◌≤◌, List, [], ◌∷◌, ◌++◌, Bool, true, false, ◌&&◌, nat_lt, Some, None, Result, Ok, Err, length, length-append, refl, ap, sym, subst, ◌∙◌, arith, add-one}
+use Rattle.std.proofs.Common.{◌≡◌, ℕ, zero, suc, ◌+◌, ◌-◌, ◌<◌, ◌≤◌, List, [], ◌∷◌, ◌++◌, Bool, true, false, ◌&&◌, nat_lt, Some, Result, Ok, Err, length, length-append, refl, ap, sym, subst, ◌∙◌, arith}
 use Rattle.std.proofs.lemmas.Bool.Decides.{nat_tests}
 use Rattle.lisp_base.specs.declared.condition.Class.{Class}
 use Rattle.lisp_base.specs.declared.value.Node.{Node}
 use Rattle.lisp_base.specs.declared.id.Actor.TheVariants.{Thread}
-use Rattle.lisp_program.specs.declared.act.Question.TheVariants.{Print as AskPrint, EndThread}
 use Rattle.lisp_program.specs.Forms.{Forms}
 use Rattle.lisp_program.specs.Points.{Points, Done, Do, Ask, main_points}
 use Rattle.world_semantics.specs.declared.entry.Entry.{Entry}
@@ -17,8 +16,7 @@ use Rattle.world_semantics.specs.World.{World, first_world}
 use Rattle.world_semantics.specs.declared.phase.Ending.{Ending}
 use Rattle.world_semantics.specs.Effect.{phases_after, effect_of, reply_of, world_after}
 use Rattle.thread_semantics.specs.State.{Base, Control, At, Exit, Ended, Frame, ThreadState, first_state}
-use Rattle.thread_semantics.specs.Step.{result_of, acted, act_step, pop_step, step_by, local_step_of, next_by, next_of, after_reply, going_on, advanced, closed}
-use Rattle.thread_semantics.specs.declared.next.Next.{Next}
+use Rattle.thread_semantics.specs.Step.{result_of, acted, act_step, pop_step, step_by, local_step_of, next_of, after_reply, going_on, advanced, closed}
 use Rattle.thread_semantics.specs.declared.next.Next.TheVariants.{Local, Operation, Nothing}
 use Rattle.run_semantics.specs.Replay.{Configuration, IsLegalBy, AreLegal, MayDo, first_configuration, after_entry, after_entries}
 use Rattle.lisp_session.specs.declared.evaluator.Evaluator.{Evaluator}

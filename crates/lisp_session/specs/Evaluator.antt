@@ -1,5 +1,5 @@
 -- How the evaluator shows the state of a thread.
-use Rattle.std.specs.Prelude.{◌≡◌, ℕ, List, [], ◌∷◌, Option, Some, None, Result, Ok, Err, drop}
+use Rattle.std.specs.Prelude.{◌≡◌, ℕ, List, [], ◌∷◌, Some, Result, Ok, Err, drop}
 use Rattle.lisp_base.specs.declared.condition.Class.{Class}
 use Rattle.lisp_base.specs.declared.value.Node.{Node}
 use Rattle.lisp_program.specs.Points.{Points, Done, Do, Ask}
@@ -7,7 +7,6 @@ use Rattle.world_semantics.specs.declared.phase.Ending.TheVariants.{Aborted}
 use Rattle.thread_semantics.specs.State.{Base, Control, At, Exit, Ended, ThreadState}
 use Rattle.lisp_session.specs.declared.steps.Step.{Step}
 use Rattle.lisp_session.specs.declared.steps.Step.TheVariants.{Act, Ask as AskStep}
-use Rattle.lisp_session.specs.declared.evaluator.Doing.{Doing}
 use Rattle.lisp_session.specs.declared.evaluator.Doing.TheVariants.{Running, Leaving, Over}
 use Rattle.lisp_session.specs.declared.evaluator.Evaluator.{Evaluator}
 

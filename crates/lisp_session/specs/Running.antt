@@ -1,5 +1,5 @@
 -- What a run keeps from turn to turn.
-use Rattle.std.specs.Prelude.{◌≡◌, ℕ, suc, ◌≤◌, List, [], ◌∷◌, Bool, true, false, length}
+use Rattle.std.specs.Prelude.{◌≡◌, ℕ, suc, ◌≤◌, [], ◌∷◌, Bool, true, false, length}
 use Rattle.lisp_program.specs.Forms.{Forms}
 use Rattle.world_semantics.specs.declared.op.Op.{Op}
 use Rattle.world_semantics.specs.declared.op.Op.TheVariants.{Out, Finish}

@@ -1,8 +1,8 @@
 ghost use Rattle.std.specs.Prelude.{◌≡◌, ◌++◌, ◌∷◌, [], ◌+◌, ◌<◌, ◌≤◌, false, drop, length, OnOk, IfOk};
 ghost use Rattle.lisp_program.specs.Forms.{forms_of};
-ghost use Rattle.lisp_program.specs.Points.{body_of, points_of, main_points};
+ghost use Rattle.lisp_program.specs.Points.{main_points, nil};
 ghost use Rattle.lisp_session.specs.Evaluator.{steps_of};
-ghost use Rattle.lisp_session.specs.Flatten.{Writes, closing_steps, is_body, between};
+ghost use Rattle.lisp_session.specs.Flatten.{Writes, strung, body_steps, under_steps, closing_steps, between};
 
 use crate::steps::Step;
 use lisp_base::memory::Memory;
@@ -10,15 +10,6 @@ use lisp_base::value::Value;
 use lisp_program::act::{Act, Question};
 use lisp_program::form::{CoreKind, FormNode, Program};
 use std::alloc::Global;
-
-/// Whether the forms under a form of this kind are a body.
-fn has_body(kind: CoreKind) -> bool
-    ensures { result ≡ is_body kind }
-{
-    match kind {
-        CoreKind::Constant(_) | CoreKind::Plus | CoreKind::Print => false,
-    }
-}
 
 /// Ends a form whose own steps begin at `start`, where those of the forms under it now stand.
 fn push_closing(kind: CoreKind, start: usize, steps: &mut Vec<Step>) -> Result<(), Memory>
@@ -38,6 +29,7 @@ fn push_closing(kind: CoreKind, start: usize, steps: &mut Vec<Step>) -> Result<(
             steps.push(Step::Ask(Question::Print))?;
             Ok(())
         }
+        CoreKind::Progn => Ok(()),
     }
 }
 
@@ -71,7 +63,7 @@ fn push_forms(
     steps: &mut Vec<Step>,
 ) -> Result<usize, Memory>
     requires { from ≤ length nodes.now }
-    ensures { IfOk result (Writes nodes.now from count body steps.old.items steps.new.items) }
+    ensures { IfOk result (Writes nodes.now from count (strung body) steps.old.items steps.new.items) }
 {
     let mut at = from;
     for done in 0..count {
@@ -88,37 +80,83 @@ fn push_forms(
 #[cycle(forms)]
 fn push_form(nodes: &[FormNode], at: usize, steps: &mut Vec<Step>) -> Result<usize, Memory>
     requires { at < length nodes.now }
-    ensures writes { IfOk result (Writes nodes.now at 1 false steps.old.items steps.new.items) }
+    ensures writes { IfOk result (Writes nodes.now at 1 (strung false) steps.old.items steps.new.items) }
     ensures on { IfOk result (λ next. at < next) }
 {
     let node = nodes[at];
     let start = steps.as_slice().len();
-    let next = push_forms(
-        nodes,
-        at + 1,
-        node.parts as usize,
-        has_body(node.kind),
-        steps,
-    )?;
+    let next = push_under(node.kind, nodes, at + 1, node.parts as usize, steps)?;
     push_closing(node.kind, start, steps)?;
     Ok(next)
 }
 
-/// The steps of main: its forms as a body, which is NIL where there is none, and its end.
+/// Writes the steps of the forms under a form of this kind.
+#[cycle(forms)]
+fn push_under(
+    kind: CoreKind,
+    nodes: &[FormNode],
+    from: usize,
+    count: usize,
+    steps: &mut Vec<Step>,
+) -> Result<usize, Memory>
+    requires { from ≤ length nodes.now }
+    ensures { IfOk result (Writes nodes.now from count (under_steps kind) steps.old.items steps.new.items) }
+{
+    match kind {
+        CoreKind::Constant(_) => Ok(push_forms(nodes, from, count, false, steps)?),
+        CoreKind::Plus => Ok(push_forms(nodes, from, count, false, steps)?),
+        CoreKind::Print => Ok(push_forms(nodes, from, count, false, steps)?),
+        CoreKind::Progn => Ok(push_body(nodes, from, count, steps)?),
+    }
+}
+
+/// Writes the steps of the next `count` forms as a body.
+#[tactic(auto, using(crate::proofs::Flattened::none_wanted, crate::proofs::Flattened::none_there, crate::proofs::Flattened::body_written))]
+#[cycle(forms)]
+fn push_body(
+    nodes: &[FormNode],
+    from: usize,
+    count: usize,
+    steps: &mut Vec<Step>,
+) -> Result<usize, Memory>
+    requires { from ≤ length nodes.now }
+    ensures { IfOk result (Writes nodes.now from count body_steps steps.old.items steps.new.items) }
+{
+    if count == 0 {
+        push_nil(steps)?;
+        return Ok(from);
+    }
+    if from == nodes.len() {
+        push_nil(steps)?;
+        return Ok(from);
+    }
+    Ok(push_forms(nodes, from, count, true, steps)?)
+}
+
+/// Writes the constant NIL.
+fn push_nil(steps: &mut Vec<Step>) -> Result<(), Memory>
+    ensures { OnOk result (steps.new.items ≡ steps.old.items ++ Step.Act (Act.Push nil) ∷ []) }
+{
+    steps.push(Step::Act(Act::Push(Value::nil())))?;
+    Ok(())
+}
+
+/// The steps of main: its forms as a body, and its end.
 pub(crate) fn main_steps(alloc: Global, program: &Program) -> Result<Vec<Step>, Memory>
     ensures { IfOk result (λ steps. steps.items ≡ steps_of (main_points (forms_of program.now))) }
 {
     let nodes = program.nodes();
-    let nothing = [Step::Act(Act::Push(Value::nil()))];
-    let end = [Step::Ask(Question::EndThread)];
     let mut steps = Vec::new(alloc);
-    if nodes.is_empty() {
-        steps.extend_from_slice(&nothing)?;
-        steps.extend_from_slice(&end)?;
-        Ok(steps)
-    } else {
-        push_forms(nodes, 0, nodes.len(), true, &mut steps)?;
-        steps.extend_from_slice(&end)?;
-        Ok(steps)
-    }
+    push_body(nodes, 0, nodes.len(), &mut steps)?;
+    push_end(&mut steps)?;
+    Ok(steps)
+}
+
+/// Writes the end of the thread.
+fn push_end(steps: &mut Vec<Step>) -> Result<(), Memory>
+    ensures { OnOk result (steps.new.items ≡ steps.old.items ++ Step.Ask Question.EndThread ∷ []) }
+{
+    let end = [Step::Ask(Question::EndThread), Step::Act(Act::Discard)];
+    steps.push(end[0])?;
+    Ok(())
 }

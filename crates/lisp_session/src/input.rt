@@ -8,10 +8,10 @@ use lisp_edge::source::Source;
 use std::alloc::Global;
 
 /// The length of the longest text that may be a program, in bytes.
-pub(crate) const LONGEST: usize = 4096;
+pub(crate) const LONGEST: usize = 1_048_576;
 
 /// How many bytes are asked for at once, at most.
-const BLOCK: usize = 4096;
+const BLOCK: usize = 65_536;
 
 /// Why a text was not read.
 #[derive(Clone, Copy, Debug, PartialEq, Eq)]

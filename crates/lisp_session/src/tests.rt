@@ -22,7 +22,22 @@ status 0
 end
 ";
 
-const REFUSED: &[u8] = b"refused 10 NotBuilt at 0\n";
+const BODY: &[u8] = b"sbcl-journal 1
+1 t0 4 out \"\\n2 \" -> ok
+2 t0 5 finish returned 2 -> ok
+report 1
+thread 0 \"main thread\" returned 2 points 5
+status 0
+end
+";
+
+const OUT_OF_POINTS: &[u8] = b"sbcl-journal 1
+1 t0 2 out \"\\n1 \" -> ok
+report 1
+thread 0 \"main thread\" out-of-points points 100000
+status 3
+end
+";
 
 /// Runs a text over memory, where these calls of source and sink fail: the status, and what the sink holds then.
 fn run(alloc: Global, text: &[u8], reads: &[u32], writes: &[u32]) -> Result<(u8, Vec<u8>), Fail> {
@@ -84,7 +99,7 @@ fn failing_ends(rt: HostRuntime) -> Result<(), Fail> {
     Ok(())
 }
 
-/// A sum at this depth: so many `(print `, a 1, and as many `)`.
+/// So many `(print `, a 1, and as many `)`.
 fn nested(alloc: Global, depth: usize) -> Result<Vec<u8>, Fail> {
     let mut text = Vec::new(alloc);
     for _ in 0..depth {
@@ -100,26 +115,18 @@ fn nested(alloc: Global, depth: usize) -> Result<Vec<u8>, Fail> {
 #[test]
 fn texts_are_refused(rt: HostRuntime) -> Result<(), Fail> {
     let alloc = rt.alloc();
-    for text in [
-        b"(print x)".as_slice(),
-        b"(+ 1)",
-        b"(+ 1 2 3)",
-        b"(print)",
-        b"()",
-        b"(1 2)",
-        b"(print 1",
-        b"1 )",
-        b"+",
-        b"1234567890",
-        b"(PRINT 1)",
-        b"1;",
-        b"'1",
-        b"\"a\"",
-        b"\xff",
+    for (text, line) in [
+        (
+            b"(print x)".as_slice(),
+            b"refused 10 NotBuilt at 7\n".as_slice(),
+        ),
+        (b"(+ 1)", b"refused 10 NotBuilt at 0\n"),
+        (b"1 )", b"refused 3 UnmatchedClose at 2\n"),
+        (b"(print (+ 1", b"refused 2 EndInside at 7\n"),
     ] {
         let (status, held) = run(alloc, text, &[], &[])?;
         assert_eq!(rt; status, 4);
-        assert_eq!(rt; held.as_slice(), REFUSED);
+        assert_eq!(rt; held.as_slice(), line);
     }
     Ok(())
 }
@@ -131,9 +138,59 @@ fn limits_of_texts(rt: HostRuntime) -> Result<(), Fail> {
         let (status, _) = run(alloc, nested(alloc, depth)?.as_slice(), &[], &[])?;
         assert_eq!(rt; status, expected);
     }
-    for (length, expected) in [(4096, 0), (4097, 4)] {
-        let (status, _) = run(alloc, vec![in alloc; b' '; length]?.as_slice(), &[], &[])?;
+    for (length, expected, written) in [
+        (1_048_576, 0, EMPTY_PROGRAM),
+        (1_048_577, 4, b"refused 7 TooLong at 1048576\n".as_slice()),
+    ] {
+        let (status, held) = run(alloc, vec![in alloc; b' '; length]?.as_slice(), &[], &[])?;
         assert_eq!(rt; status, expected);
+        assert_eq!(rt; held.as_slice(), written);
     }
+    Ok(())
+}
+
+/// A form and so many numbers after it.
+fn numbers(alloc: Global, first: &[u8], count: usize) -> Result<Vec<u8>, Fail> {
+    let mut text = Vec::from_slice(alloc, first)?;
+    for _ in 0..count {
+        text.extend_from_slice(b" 1")?;
+    }
+    Ok(text)
+}
+
+#[test]
+fn limits_of_points(rt: HostRuntime) -> Result<(), Fail> {
+    let alloc = rt.alloc();
+    let (status, _) = run(alloc, numbers(alloc, b"1", 49_999)?.as_slice(), &[], &[])?;
+    assert_eq!(rt; status, 0);
+    let (status, held) = run(
+        alloc,
+        numbers(alloc, b"(print 1)", 49_999)?.as_slice(),
+        &[],
+        &[],
+    )?;
+    assert_eq!(rt; status, 3);
+    assert_eq!(rt; held.as_slice(), OUT_OF_POINTS);
+    Ok(())
+}
+
+#[test]
+fn words_are_refused(rt: HostRuntime) -> Result<(), Fail> {
+    let alloc = rt.alloc();
+    let words = vec![in alloc; String::from_str(alloc, "--look")?]?;
+    let mut source = MemorySource::new(
+        Vec::from_slice(alloc, b"1")?,
+        Vec::from_slice(alloc, &[0])?,
+    );
+    let mut sink = MemorySink::new(alloc, Vec::new(alloc));
+    let status = run_one(
+        alloc,
+        words.as_slice(),
+        &mut source,
+        &mut sink,
+        &VirtualClock::new(),
+    );
+    assert_eq!(rt; status, 2);
+    assert_eq!(rt; sink.held(), b"refused words\n".as_slice());
     Ok(())
 }

@@ -1,6 +1,6 @@
 -- Worked programs with their journals and reports.
-use Rattle.std.specs.Prelude.{◌≡◌, ℕ, pos, List, [], ◌∷◌, Some, None}
-use Rattle.lisp_base.specs.Forest.{Forest, NoTrees, Tree}
+use Rattle.std.specs.Prelude.{ℕ, pos, List, [], ◌∷◌}
+use Rattle.lisp_base.specs.Forest.{NoTrees, Tree}
 use Rattle.lisp_base.specs.declared.id.Actor.TheVariants.{Thread}
 use Rattle.lisp_base.specs.declared.value.Node.TheVariants.{Int}
 use Rattle.lisp_program.specs.Forms.{Forms}

@@ -1,5 +1,5 @@
 -- What an operation does to the shared objects.
-use Rattle.std.specs.Prelude.{ℕ, List, [], ◌∷◌, ◌++◌, Option, Some, None, Bool, true, false, slice_get, slice_set}
+use Rattle.std.specs.Prelude.{ℕ, List, [], ◌∷◌, ◌++◌, Option, Some, None, slice_get, slice_set}
 use Rattle.lisp_base.specs.declared.id.Actor.{Actor}
 use Rattle.lisp_base.specs.declared.id.Actor.TheVariants.{Thread, Runner}
 use Rattle.world_semantics.specs.declared.op.Op.{Op}

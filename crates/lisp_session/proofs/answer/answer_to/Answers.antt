@@ -1,4 +1,3 @@
-use Rattle.lisp_reader.specs.Reading.{IsRefusal}
 use Rattle.lisp_session.proofs.answer.answer_to.Goals as goal
 
 pub returns : goal.returns

@@ -9,4 +9,4 @@ invariant-loop-block g l = record {
 }
 
 abbrev pub decreases-loop-block : goal.decreases-loop-block
-decreases-loop-block g l = 4097 - length l.text.items
+decreases-loop-block g l = 1048577 - length l.text.items

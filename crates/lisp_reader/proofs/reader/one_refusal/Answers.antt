@@ -1,0 +1,5 @@
+use Rattle.lisp_reader.proofs.Readings.{one_refusal}
+use Rattle.lisp_reader.proofs.reader.one_refusal.Goals as goal
+
+pub returns : goal.returns
+returns c = one_refusal

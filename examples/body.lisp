@@ -1,0 +1,1 @@
+(progn 1 (print 2))
