@@ -1,0 +1,4 @@
+pub mod Stack
+pub mod Calls
+pub mod Entries
+pub use Rattle.environment_semantics.specs.Environment

@@ -1,0 +1,2 @@
+//! The dynamic environment of a thread: the bindings of special symbols, and what they hold.
+#![tactic(auto)]
