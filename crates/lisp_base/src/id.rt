@@ -35,6 +35,18 @@ impl SymbolId {
     }
 }
 
+/// The number of a string literal.
+#[derive(Clone, Copy, Debug, PartialEq, Eq)]
+pub struct StringId(pub u32);
+
+impl Model for StringId {
+    ghost Value = { ℕ };
+
+    ghost view = { λ s. s.0 };
+
+    ghost inverse = { λ n. record { 0 = n } };
+}
+
 /// The number of a thread, below 32. Main is 0.
 #[derive(Clone, Copy, Debug, PartialEq, Eq)]
 pub struct ThreadId {
