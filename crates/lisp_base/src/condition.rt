@@ -2,7 +2,9 @@
 #[derive(Clone, Copy, Debug, PartialEq, Eq)]
 pub enum Class {
     TypeError,
+    UnboundVariable,
     IntegerRange,
+    StorageCondition,
 }
 
 /// A condition.

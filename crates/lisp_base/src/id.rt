@@ -1,4 +1,4 @@
-ghost use Rattle.std.specs.Prelude.{◌≡◌, ℕ, ◌<◌};
+ghost use Rattle.std.specs.Prelude.{◌≡◌, ℕ, ◌^◌, ◌<◌};
 
 use std::marker::Model;
 
@@ -14,7 +14,7 @@ impl Model for Place {
     ghost inverse = { λ n. record { 0 = n } };
 }
 
-/// The number of a symbol. NIL is 0.
+/// The number of a symbol, below 2^31. NIL is 0.
 #[derive(Clone, Copy, Debug, PartialEq, Eq)]
 pub struct SymbolId(pub u32);
 
@@ -22,6 +22,8 @@ impl Model for SymbolId {
     ghost Value = { ℕ };
 
     ghost view = { λ s. s.0 };
+
+    ghost invariant = { λ s. s.0 < 2 ^ 31 };
 
     ghost inverse = { λ n. record { 0 = n } };
 }
@@ -32,6 +34,14 @@ impl SymbolId {
         ensures { result ≡ 0 }
     {
         SymbolId(0)
+    }
+
+    /// Its number, which is below 2^31.
+    pub fn number(self) -> u32
+        ensures value { result ≡ self }
+        ensures limit { result < 2 ^ 31 }
+    {
+        self.0
     }
 }
 

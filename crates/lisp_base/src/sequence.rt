@@ -1,4 +1,4 @@
-ghost use Rattle.std.specs.Prelude.{◌≡◌, ◌↔◌, IsTrue, List, [], ◌∷◌, ◌++◌, length, OnOk, OnErr};
+ghost use Rattle.std.specs.Prelude.{◌≡◌, ◌↔◌, IsTrue, List, [], ◌∷◌, ◌++◌, length, slice_set, OnOk, OnErr};
 
 use crate::memory::Memory;
 use std::alloc::Global;
@@ -61,6 +61,17 @@ impl<T> Sequence<T> {
         ensures { result.now ≡ self.now }
     {
         self.items.as_slice()
+    }
+
+    /// Puts an item in the place of another, where there is one with this number.
+    pub fn set(&mut self, number: usize, item: T)
+    where
+        T: Drop,
+        ensures { self.new ≡ slice_set self.old number item }
+    {
+        if number < self.items.len() {
+            self.items[number] = item;
+        }
     }
 
     /// Puts an item at the end. After want of memory the list is as it was.

@@ -60,6 +60,15 @@ impl Value {
         self.node
     }
 
+    /// A symbol.
+    pub fn symbol(symbol: SymbolId) -> Value
+        ensures { result ≡ Node.Symbol symbol }
+    {
+        Value {
+            node: Node::Symbol(symbol),
+        }
+    }
+
     /// NIL, which is also what is false.
     pub fn nil() -> Value
         ensures { result ≡ Node.Symbol 0 }

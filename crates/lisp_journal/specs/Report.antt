@@ -1,5 +1,5 @@
 -- The text of the report.
-use Rattle.std.specs.Prelude.{ℕ, suc, List, [], ◌∷◌, ◌++◌, if◌then◌else◌, ◌==◌, codes}
+use Rattle.std.specs.Prelude.{ℕ, suc, List, [], ◌∷◌, ◌++◌, if◌then◌else◌, ◌==◌, Option, Some, None, codes}
 use Rattle.std.specs.Fmt.{decimal}
 use Rattle.lisp_base.specs.declared.value.Node.{Node}
 use Rattle.world_semantics.specs.declared.phase.Phase.{Phase}
@@ -8,34 +8,60 @@ use Rattle.run_semantics.specs.declared.report.PhaseReport.{PhaseReport}
 use Rattle.run_semantics.specs.declared.report.PhaseReport.TheVariants.{Ended as IsEnded, OutOfPoints, Runnable}
 use Rattle.run_semantics.specs.declared.report.Report.{Report}
 use Rattle.run_semantics.specs.declared.report.ThreadLine.{ThreadLine}
-use Rattle.lisp_journal.specs.Printing.{value_text}
+use Rattle.std.specs.List.{flat_map}
+use Rattle.world_semantics.specs.declared.global.Global.{Global}
+use Rattle.run_semantics.specs.declared.report.FrameWord.{FrameWord}
+use Rattle.run_semantics.specs.declared.report.FrameWord.TheVariants.{Bind}
+use Rattle.run_semantics.specs.declared.report.OpenForm.{OpenForm}
+use Rattle.lisp_journal.specs.Printing.{symbol_text, value_text}
 use Rattle.lisp_journal.specs.Journal.{ending_text}
 
 -- the name of a thread; that of main is written so, though it is kept as NIL
-abbrev pub name_text : ℕ → Node → List ℕ
-name_text number name = if number == 0 then codes "\"main thread\"" else value_text name
+abbrev pub name_text : List (List ℕ) → ℕ → Node → List ℕ
+name_text names number name = if number == 0 then codes "\"main thread\"" else value_text names name
 
 -- how a thread ended, or that it has not
-abbrev pub phase_text : Phase → List ℕ
-phase_text Alive = codes "alive"
-phase_text (Ended ending) = ending_text ending
+abbrev pub phase_text : List (List ℕ) → Phase → List ℕ
+phase_text names Alive = codes "alive"
+phase_text names (Ended ending) = ending_text names ending
 
 -- Where a thread stands. In a report of a run that is over no thread can go on, so the last line is never written.
-abbrev pub standing_text : PhaseReport → Phase → List ℕ
-standing_text IsEnded phase = phase_text phase
-standing_text OutOfPoints phase = codes "out-of-points"
-standing_text Runnable phase = codes "runnable"
+abbrev pub standing_text : List (List ℕ) → PhaseReport → Phase → List ℕ
+standing_text names IsEnded phase = phase_text names phase
+standing_text names OutOfPoints phase = codes "out-of-points"
+standing_text names Runnable phase = codes "runnable"
+
+-- the word for a kind of open form
+abbrev pub frame_word : FrameWord → List ℕ
+frame_word Bind = codes "bind"
+
+-- the line of an open form
+abbrev pub open_text : OpenForm → List ℕ
+open_text f = codes "  open " ++ frame_word f.kind ++ codes " " ++ decimal f.place ++ codes "\n"
 
 -- the line of a thread
-abbrev pub thread_text : ℕ → ThreadLine → List ℕ
-thread_text number line =
-    codes "thread " ++ decimal number ++ codes " " ++ name_text number line.name ++ codes " " ++ standing_text line.machine.phase line.phase ++ codes " points " ++ decimal line.machine.points ++ codes "\n"
+abbrev pub line_text : List (List ℕ) → ℕ → ThreadLine → List ℕ
+line_text names number line =
+    codes "thread " ++ decimal number ++ codes " " ++ name_text names number line.name ++ codes " " ++ standing_text names line.machine.phase line.phase ++ codes " points " ++ decimal line.machine.points ++ codes "\n"
+
+-- the line of a thread, and those of its open forms, innermost first
+abbrev pub thread_text : List (List ℕ) → ℕ → ThreadLine → List ℕ
+thread_text names number line = line_text names number line ++ flat_map open_text line.machine.frames
 
 -- the lines of threads that are numbered from here on
-abbrev pub thread_texts : ℕ → List ThreadLine → List ℕ
-thread_texts number [] = []
-thread_texts number (line ∷ lines) = thread_text number line ++ thread_texts (suc number) lines
+abbrev pub thread_texts : List (List ℕ) → ℕ → List ThreadLine → List ℕ
+thread_texts names number [] = []
+thread_texts names number (line ∷ lines) = thread_text names number line ++ thread_texts names (suc number) lines
 
--- the report: its first line, a line for each thread, the status, and its last line
-abbrev pub report_text : Report → List ℕ
-report_text r = codes "report 1\n" ++ thread_texts 0 r.threads ++ codes "status " ++ decimal r.status ++ codes "\nend\n"
+-- the global value of a special variable, where it has one
+abbrev pub held_text : List (List ℕ) → Option Node → List ℕ
+held_text names None = codes "unbound"
+held_text names (Some v) = value_text names v
+
+-- the line of a special variable
+abbrev pub global_text : List (List ℕ) → Global → List ℕ
+global_text names g = codes "global " ++ symbol_text names g.symbol ++ codes " " ++ held_text names g.value ++ codes "\n"
+
+-- the report: its first line, the lines of each thread, a line for each special variable, the status, and its last line
+abbrev pub report_text : List (List ℕ) → Report → List ℕ
+report_text names r = codes "report 1\n" ++ thread_texts names 0 r.threads ++ flat_map (global_text names) r.globals ++ codes "status " ++ decimal r.status ++ codes "\nend\n"

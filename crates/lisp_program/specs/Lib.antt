@@ -1,4 +1,5 @@
 pub mod Forms
 pub mod Points
+pub mod Program
 pub use Rattle.lisp_base.specs.Forest
 pub use Rattle.lisp_base.specs.Value

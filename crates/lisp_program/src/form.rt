@@ -1,6 +1,6 @@
 ghost use Rattle.std.specs.Prelude.{◌≡◌};
 
-use lisp_base::id::Place;
+use lisp_base::id::{Place, SymbolId};
 use lisp_base::value::Value;
 use std::marker::Model;
 
@@ -11,6 +11,17 @@ pub enum CoreKind {
     Plus,
     Print,
     Progn,
+    /// A special variable.
+    Special(SymbolId),
+    /// `setq` of a special variable; its value stands under it.
+    Setq(SymbolId),
+    /// `defvar` of a special variable; its value stands under it.
+    Defvar(SymbolId),
+    /// `let`: the values of its variables stand under it, and then one `Bind`.
+    Let,
+    /// One variable of a `let`, which takes the value that has so many others in front. Under it stands the next
+    /// variable, or the body.
+    Bind(SymbolId, u32),
 }
 
 /// One form of a program in preorder: its kind, its place, and how many forms stand directly under it.

@@ -7,6 +7,7 @@ use Rattle.run_semantics.specs.declared.report.Report.{Report}
 use Rattle.run_semantics.specs.Run.{RunsAs}
 use Rattle.run_semantics.specs.Report.{status_of, has_ended}
 use Rattle.lisp_reader.specs.Grammar.{Reads}
+use Rattle.symbol_table.specs.Names.{first_symbols}
 use Rattle.lisp_journal.specs.Journal.{journal_text}
 use Rattle.lisp_journal.specs.Report.{report_text}
 use Rattle.lisp_session.specs.Headline.{steps, IsRunText, IsRunStatus}
@@ -21,8 +22,8 @@ run_status (s ∷ ss) = by_end (has_ended s.control) (status_of ss) (run_status 
     by_end false n h = inr refl
 
 -- journal and report of a run are its text
-pub run_written : (bytes text : List ℕ) (forms : Forms) (journal : List Entry) (report : Report) → RunsAs steps forms journal report
-    → text ≡ journal_text journal ++ report_text report → Reads bytes forms → IsRunText bytes text report.status × IsRunStatus report.status
+pub run_written : (bytes text : List ℕ) (forms : Forms) (journal : List Entry) (report : Report) → RunsAs steps (record { forms = forms; specials = [] }) journal report
+    → text ≡ journal_text first_symbols journal ++ report_text first_symbols report → Reads bytes forms → IsRunText bytes text report.status × IsRunStatus report.status
 run_written bytes text forms journal report r e reads =
     let which : report.status ≡ status_of r.last.threads = ap (λ (x : Report). x.status) r.reported in (
       (record {
@@ -32,7 +33,7 @@ run_written bytes text forms journal report r e reads =
         last = r.last;
         replays = r.replays;
         over = r.over;
-        written = e ∙ ap (λ x. journal_text journal ++ report_text x) r.reported;
+        written = e ∙ ap (λ x. journal_text first_symbols journal ++ report_text first_symbols x) r.reported;
         which = which;
       }),
       subst (λ n. IsRunStatus n) (sym which) (run_status r.last.threads),

@@ -1,7 +1,9 @@
 pub mod Advances
-pub mod Stepped
-pub mod Flattened
+pub mod Bound
+pub mod Shown
+pub mod Variables
 pub mod Turned
+pub mod Reported
 pub mod Answered
 pub mod Ends
 pub mod Wrote

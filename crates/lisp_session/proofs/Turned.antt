@@ -1,52 +1,110 @@
 -- A turn keeps what a run keeps.
-use Rattle.std.proofs.Common.{◌≡◌, ℕ, zero, suc, ◌+◌, ◌-◌, ◌<◌, ◌≤◌, List, [], ◌∷◌, ◌++◌, Bool, true, false, ◌&&◌, nat_lt, Some, Result, Ok, Err, length, length-append, refl, ap, sym, subst, ◌∙◌, arith}
+use Rattle.std.proofs.Common.{◌≡◌, ℕ, zero, suc, ◌+◌, ◌-◌, ◌<◌, ◌≤◌, List, [], ◌∷◌, ◌++◌, Bool, true, false, ◌&&◌, nat_lt, Some, Result, Ok, Err, length, length-append, append-nil, ◌^◌, refl, ap, sym, subst, ◌∙◌, arith}
 use Rattle.std.proofs.lemmas.Bool.Decides.{nat_tests}
 use Rattle.lisp_base.specs.declared.condition.Class.{Class}
 use Rattle.lisp_base.specs.declared.value.Node.{Node}
 use Rattle.lisp_base.specs.declared.id.Actor.TheVariants.{Thread}
-use Rattle.lisp_program.specs.Forms.{Forms}
-use Rattle.lisp_program.specs.Points.{Points, Done, Do, Ask, main_points}
+use Rattle.lisp_program.specs.Program.{Program}
+use Rattle.lisp_program.specs.Points.{Points, Done, Do, Ask, Test, Enter, main_points}
+use Rattle.lisp_program.specs.declared.act.Opening.{Opening}
+use Rattle.lisp_program.specs.declared.act.Opening.TheVariants.{Bind}
+use Rattle.lisp_program.specs.declared.act.Question.{Question}
+use Rattle.lisp_program.specs.declared.act.Question.TheVariants.{Print, Read, Write, Define, EndThread}
 use Rattle.world_semantics.specs.declared.entry.Entry.{Entry}
 use Rattle.world_semantics.specs.declared.op.Op.{Op}
-use Rattle.world_semantics.specs.declared.op.Op.TheVariants.{Out, Finish}
-use Rattle.world_semantics.specs.declared.op.Reply.TheVariants.{Okay}
+use Rattle.world_semantics.specs.declared.op.Op.TheVariants.{Get, Set, Boundp, Out, Finish}
+use Rattle.world_semantics.specs.declared.op.Reply.{Reply}
+use Rattle.world_semantics.specs.declared.op.Reply.TheVariants.{Okay, Value, Unbound, Truth}
 use Rattle.world_semantics.specs.declared.phase.Phase.{Phase}
 use Rattle.world_semantics.specs.declared.phase.Phase.TheVariants.{Alive, Ended as HasEnded}
 use Rattle.world_semantics.specs.World.{World, first_world}
 use Rattle.world_semantics.specs.declared.phase.Ending.{Ending}
 use Rattle.world_semantics.specs.Effect.{phases_after, effect_of, reply_of, world_after}
-use Rattle.thread_semantics.specs.State.{Base, Control, At, Exit, Ended, Frame, ThreadState, first_state}
-use Rattle.thread_semantics.specs.Step.{result_of, acted, act_step, pop_step, step_by, local_step_of, next_of, after_reply, going_on, advanced, closed}
+use Rattle.thread_semantics.specs.Acts.{top, result_of}
+use Rattle.thread_semantics.specs.State.{Base, Control, At, Exit, Ended, FrameKind, BindFrame, Frame, ThreadState, first_state}
+use Rattle.thread_semantics.specs.Step.{acted, ask_step, enter_step, leave_step, pop_step, put_back, has_room, step_by, read_reply, question_reply, test_reply, reply_by as reply_step, local_step_of, next_of, after_reply, going_on, advanced, closed}
 use Rattle.thread_semantics.specs.declared.next.Next.TheVariants.{Local, Operation, Nothing}
 use Rattle.run_semantics.specs.Replay.{Configuration, IsLegalBy, AreLegal, MayDo, first_configuration, after_entry, after_entries}
 use Rattle.lisp_session.specs.declared.evaluator.Evaluator.{Evaluator}
 use Rattle.lisp_session.specs.declared.run.Run.{Run}
 use Rattle.run_semantics.specs.Over.{goes_on}
-use Rattle.lisp_session.specs.Evaluator.{steps_of, shown_at, Stands}
+use Rattle.form_steps.specs.Steps.{steps_of}
+use Rattle.world_semantics.specs.declared.global.Global.{Global}
+use Rattle.world_semantics.specs.World.{unbound_all}
+use Rattle.lisp_session.specs.Evaluator.{Stands, shown_bindings}
 use Rattle.lisp_session.specs.declared.evaluator.Doing.TheVariants.{Running}
-use Rattle.lisp_session.specs.Running.{Ran, Stops, AsksFor, phase_by}
+use Rattle.lisp_session.specs.Running.{Ran, Stops, AsksFor, phase_by, globals_by, reply_by}
 
 -- a local point is one point
 acted-points : (r : Result (List Node) Class) (after : Points) (s : ThreadState) → (acted r after s).points ≡ s.points
 acted-points (Ok vs) after s = refl
 acted-points (Err class) after s = refl
 
-act_step-points : (points : Points) (vs : List Node) (s : ThreadState) → (act_step points vs s).points ≡ s.points
-act_step-points Done vs s = refl
-act_step-points (Do act p after) vs s = acted-points (result_of act vs) after s
-act_step-points (Ask q p after) vs s = refl
+ask_step-points : (q : Question) (after : Points) (vs : List Node) (s : ThreadState) → (ask_step q after vs s).points ≡ s.points
+ask_step-points Print after vs s = refl
+ask_step-points (Read symbol) after vs s = refl
+ask_step-points (Write symbol) after vs s = refl
+ask_step-points (Define symbol) after vs s = refl
+ask_step-points EndThread after vs s = refl
+
+enter_step-points : (room : Bool) (o : Opening) (p : ℕ) (body after : Points) (vs : List Node) (s : ThreadState) → (enter_step room o p body after vs s).points ≡ s.points
+enter_step-points true (Bind symbol above) p body after vs s = refl
+enter_step-points false o p body after vs s = refl
+
+put_back-points : (k : FrameKind) (s : ThreadState) → (put_back k s).points ≡ s.points
+put_back-points (BindFrame bindings) s = refl
+
+leave_step-points : (fs : List Frame) (vs : List Node) (s : ThreadState) → (leave_step fs vs s).points ≡ s.points
+leave_step-points [] vs s = refl
+leave_step-points (f ∷ fs) vs s = put_back-points f.kind (record s { control = At f.after (top vs ∷ f.values); frames = fs })
 
 pop_step-points : (fs : List Frame) (s : ThreadState) → (pop_step fs s).points ≡ s.points
 pop_step-points [] s = refl
-pop_step-points (f ∷ fs) s = refl
+pop_step-points (f ∷ fs) s = put_back-points f.kind (record s { frames = fs })
 
 step_by-points : (c : Control) (s : ThreadState) → (step_by c s).points ≡ s.points
-step_by-points (At points vs) s = act_step-points points vs s
+step_by-points (At Done vs) s = leave_step-points s.frames vs s
+step_by-points (At (Do act p after) vs) s = acted-points (result_of act vs) after s
+step_by-points (At (Ask q p after) vs) s = ask_step-points q after vs s
+step_by-points (At (Test symbol p value after) vs) s = refl
+step_by-points (At (Enter o p body after) vs) s = enter_step-points (has_room s) o p body after vs s
 step_by-points (Exit target) s = pop_step-points s.frames s
 step_by-points Ended s = refl
 
 local_step-points : (s : ThreadState) → (local_step_of s).points ≡ suc s.points
 local_step-points s = step_by-points s.control (record s { points = suc s.points })
+
+reply-points : (reply : Reply) (s : ThreadState) → (after_reply reply s).points ≡ suc s.points
+reply-points reply s = by_control s.control (record s { points = suc s.points })
+  where
+    by_read : (reply : Reply) (after : Points) (vs : List Node) (t : ThreadState) → (read_reply reply after vs t).points ≡ t.points
+    by_read Okay after vs t = refl
+    by_read (Value v) after vs t = refl
+    by_read Unbound after vs t = refl
+    by_read (Truth b) after vs t = refl
+
+    by_question : (q : Question) (after : Points) (vs : List Node) (t : ThreadState) → (question_reply q reply after vs t).points ≡ t.points
+    by_question Print after vs t = refl
+    by_question (Read symbol) after vs t = by_read reply after vs t
+    by_question (Write symbol) after vs t = refl
+    by_question (Define symbol) after vs t = refl
+    by_question EndThread after vs t = refl
+
+    by_test : (reply : Reply) (symbol : ℕ) (value after : Points) (vs : List Node) (t : ThreadState) → (test_reply reply symbol value after vs t).points ≡ t.points
+    by_test (Truth true) symbol value after vs t = refl
+    by_test (Truth false) symbol value after vs t = refl
+    by_test Okay symbol value after vs t = refl
+    by_test (Value v) symbol value after vs t = refl
+    by_test Unbound symbol value after vs t = refl
+
+    by_control : (c : Control) (t : ThreadState) → (reply_step c reply t).points ≡ t.points
+    by_control (At Done vs) t = refl
+    by_control (At (Do act p after) vs) t = refl
+    by_control (At (Ask q p after) vs) t = by_question q after vs t
+    by_control (At (Test symbol p value after) vs) t = by_test reply symbol value after vs t
+    by_control (At (Enter o p body after) vs) t = refl
+    by_control (Exit target) t = refl
+    by_control Ended t = refl
 
 -- a local point leads to where the thread would come anyway
 closed-local : (limit : ℕ) (s : ThreadState) → next_of s ≡ Local → s.points < limit → closed limit (local_step_of s) ≡ closed limit s
@@ -72,7 +130,7 @@ closed-out : (limit : ℕ) (s : ThreadState) → limit ≤ s.points → closed l
 closed-out limit s h = let none : limit - s.points ≡ 0 = omega arith in ap (λ m. advanced m s) none
 
 -- a local point of the evaluator is one of the run
-pub local_ran : (limit taken : ℕ) (f : Forms) (run : Run) (e : Evaluator) → Ran limit f taken run → taken < limit
+pub local_ran : (limit taken : ℕ) (f : Program) (run : Run) (e : Evaluator) → Ran limit f taken run → taken < limit
     → ((s : ThreadState) → Stands s run.evaluator → Local ≡ next_of s)
     → ((s : ThreadState) → Stands s run.evaluator → next_of s ≡ Local → Stands (local_step_of s) e)
     → Ran limit f (suc taken) (record run { evaluator = e })
@@ -88,6 +146,7 @@ local_ran limit taken f run e r h next step =
       same = closed-local limit r.present local room ∙ r.same;
       stands = step r.present r.stands local;
       points = local_step-points r.present ∙ ap (λ n. suc n) r.points;
+      globals = r.globals;
       phases = r.phases;
       few = omega (arith, r.few);
     }
@@ -97,7 +156,7 @@ and-false true = refl
 and-false false = refl
 
 -- nothing comes next
-pub nothing_left : (limit taken : ℕ) (f : Forms) (run : Run) → Ran limit f taken run
+pub nothing_left : (limit taken : ℕ) (f : Program) (run : Run) → Ran limit f taken run
     → ((s : ThreadState) → Stands s run.evaluator → Nothing ≡ next_of s) → Stops limit f run
 nothing_left limit taken f run r next =
     let none : next_of r.present ≡ Nothing = sym (next r.present r.stands) in
@@ -109,7 +168,7 @@ nothing_left limit taken f run r next =
     }
 
 -- no points are left
-pub out_of_points : (limit taken : ℕ) (f : Forms) (run : Run) → Ran limit f taken run → limit ≤ taken → Stops limit f run
+pub out_of_points : (limit taken : ℕ) (f : Program) (run : Run) → Ran limit f taken run → limit ≤ taken → Stops limit f run
 out_of_points limit taken f run r h =
     let none : nat_lt r.present.points limit ≡ false = not_below r.present.points limit (omega (arith, r.points)) in
     record {
@@ -133,7 +192,10 @@ leads_more : (limit : ℕ) (es : List Entry) (e : Entry) (c : Configuration)
 leads_more limit [] e c = refl
 leads_more limit (x ∷ xs) e c = leads_more limit xs e (after_entry limit x c)
 
-answered : (op : Op) (w : World) → reply_of (effect_of op (Thread 0) w) ≡ Some Okay
+answered : (op : Op) (w : World) → reply_of (effect_of op (Thread 0) w) ≡ Some (reply_by op w.globals)
+answered (Get symbol) w = refl
+answered (Set symbol v) w = refl
+answered (Boundp symbol) w = refl
 answered (Out printed) w = refl
 answered (Finish ending) w = refl
 
@@ -142,65 +204,76 @@ ended_alone ending Alive = refl
 ended_alone ending (HasEnded before) = refl
 
 phases_by : (op : Op) (w : World) (phase : Phase) → w.phases ≡ phase ∷ [] → (world_after (effect_of op (Thread 0) w) w).phases ≡ phase_by op phase ∷ []
+phases_by (Get symbol) w phase h = h
+phases_by (Set symbol v) w phase h = h
+phases_by (Boundp symbol) w phase h = h
 phases_by (Out printed) w phase h = h
 phases_by (Finish ending) w phase h = ap (λ ps. phases_after (Thread 0) ending ps) h ∙ ended_alone ending phase
 
-shown_at-points : (c : Control) (n : ℕ) → (shown_at c n).points ≡ n
-shown_at-points (At points vs) n = refl
-shown_at-points (Exit (Base ending)) n = refl
-shown_at-points Ended n = refl
+globals_after : (op : Op) (w : World) → (world_after (effect_of op (Thread 0) w) w).globals ≡ globals_by op w.globals
+globals_after (Get symbol) w = refl
+globals_after (Set symbol v) w = refl
+globals_after (Boundp symbol) w = refl
+globals_after (Out printed) w = refl
+globals_after (Finish ending) w = refl
 
 pub stands-points : (s : ThreadState) (e : Evaluator) → Stands s e → e.points ≡ s.points
-stands-points s e h = ap (λ (d : Evaluator). d.points) h.shown ∙ shown_at-points s.control s.points
+stands-points s e h = ap (λ (d : Evaluator). d.points) h.shown
+
+pub stands-symbols : (s : ThreadState) (e : Evaluator) → Stands s e → e.bindings.symbols ≡ 2 ^ 31
+stands-symbols s e h = ap (λ (d : Evaluator). d.bindings.symbols) h.shown
 
 -- an operation of the evaluator is an entry of the run
-pub operation_ran : (limit taken : ℕ) (f : Forms) (run : Run) (op : Op) (e : Evaluator) (phase : Phase) (entries : List Entry) → Ran limit f taken run → taken < limit
+pub operation_ran : (limit taken : ℕ) (f : Program) (run : Run) (op : Op) (reply : Reply) (e : Evaluator) (globals : List Global) (phase : Phase) (entries : List Entry) → Ran limit f taken run → taken < limit
     → AsksFor op run.evaluator
-    → entries ≡ run.entries ++ (record { ticket = length run.entries + 1; actor = Thread 0; point = run.evaluator.points + 1; op = op; reply = Okay }) ∷ []
-    → ((s : ThreadState) (o : Op) → Stands s run.evaluator → next_of s ≡ Operation o → Stands (after_reply Okay s) e)
-    → phase ≡ phase_by op run.phase
-    → Ran limit f (suc taken) (record { evaluator = e; phase = phase; entries = entries })
-operation_ran limit taken f run op e phase entries r h asks more accept p =
-    let entry : Entry = record { ticket = length run.entries + 1; actor = Thread 0; point = run.evaluator.points + 1; op = op; reply = Okay } in
+    → entries ≡ run.entries ++ (record { ticket = length run.entries + 1; actor = Thread 0; point = run.evaluator.points + 1; op = op; reply = reply }) ∷ []
+    → reply ≡ reply_by op run.globals → ((s : ThreadState) → Stands s run.evaluator → Stands (after_reply reply s) e)
+    → globals ≡ globals_by op run.globals → phase ≡ phase_by op run.phase
+    → Ran limit f (suc taken) (record { evaluator = e; globals = globals; phase = phase; entries = entries })
+operation_ran limit taken f run op reply e globals phase entries r h asks more replied accept g p =
+    let entry : Entry = record { ticket = length run.entries + 1; actor = Thread 0; point = run.evaluator.points + 1; op = op; reply = reply } in
     let next : next_of r.present ≡ Operation op = sym (asks r.present r.stands) in
     let here : closed limit r.start ≡ r.present = sym r.same ∙ advanced-operation (limit - r.present.points) r.present op next in
     let shown : run.evaluator.points ≡ r.present.points = stands-points r.present run.evaluator r.stands in
     let may : MayDo limit r.present r.world entry =
-    record { operation = next; left = omega (arith, r.points); point = omega arith; answer = answered op r.world } in
+    record { operation = next; left = omega (arith, r.points); point = omega arith; answer = answered op r.world ∙ ap (λ gs. Some (reply_by op gs)) r.globals ∙ ap (λ x. Some x) (sym replied) } in
     let legal_there : MayDo limit (closed limit r.start) r.world entry =
     subst (λ (s : ThreadState). MayDo limit s r.world entry) (sym here) may in
     let legal' : IsLegalBy (Thread 0) limit (after_entries limit run.entries (first_configuration f)) entry =
     subst (λ (c : Configuration). IsLegalBy (Thread 0) limit c entry) (sym r.leads) legal_there in
     record {
-      start = after_reply Okay (closed limit r.start);
-      present = after_reply Okay r.present;
+      start = after_reply reply (closed limit r.start);
+      present = after_reply reply r.present;
       world = world_after (effect_of op (Thread 0) r.world) r.world;
       legal = rw more (legal_more limit 1 run.entries entry (first_configuration f) r.legal (omega arith) legal');
       leads = rw more (leads_more limit run.entries entry (first_configuration f) ∙ ap (λ c. after_entry limit entry c) r.leads);
-      same = ap (λ s. closed limit (after_reply Okay s)) (sym here);
-      stands = accept r.present op r.stands next;
-      points = ap (λ n. suc n) r.points;
+      same = ap (λ s. closed limit (after_reply reply s)) (sym here);
+      stands = accept r.present r.stands;
+      points = reply-points reply r.present ∙ ap (λ n. suc n) r.points;
+      globals = globals_after op r.world ∙ ap (globals_by op) r.globals ∙ sym g;
       phases = rw p (phases_by op r.world run.phase r.phases);
       few = rw (more, length-append) (omega (arith, r.few));
     }
 
 -- a run before its first point
-pub begun : (limit : ℕ) (f : Forms) (run : Run) → run.evaluator ≡ record { doing = Running; ahead = steps_of (main_points f); values = []; points = 0 }
-    → run.phase ≡ Alive → run.entries ≡ [] → Ran limit f 0 run
-begun limit f run e p n =
+pub begun : (limit : ℕ) (f : Program) (run : Run)
+    → run.evaluator ≡ record { doing = Running; ahead = steps_of (main_points f.forms); values = []; frames = []; bindings = shown_bindings []; store = []; points = 0 }
+    → run.globals ≡ unbound_all f.specials → run.phase ≡ Alive → run.entries ≡ [] → Ran limit f 0 run
+begun limit f run e g p n =
     record {
-      start = first_state f;
-      present = first_state f;
-      world = first_world;
+      start = first_state f.forms;
+      present = first_state f.forms;
+      world = first_world f.specials;
       legal = rw n tt;
       leads = rw n refl;
       same = refl;
-      stands = record { shown = e; bare = refl };
+      stands = record { shown = e ∙ ap (λ a. record { doing = Running; ahead = a; values = []; frames = []; bindings = shown_bindings []; store = []; points = 0 }) (sym (append-nil (steps_of (main_points f.forms)))); nested = refl };
       points = refl;
+      globals = sym g;
       phases = rw p refl;
       few = rw n (omega arith);
     }
 
 -- the evaluator counts the points of the run
-pub counted : (limit taken : ℕ) (f : Forms) (run : Run) → Ran limit f taken run → run.evaluator.points ≡ taken
+pub counted : (limit taken : ℕ) (f : Program) (run : Run) → Ran limit f taken run → run.evaluator.points ≡ taken
 counted limit taken f run r = stands-points r.present run.evaluator r.stands ∙ r.points

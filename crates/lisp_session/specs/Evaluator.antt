@@ -1,33 +1,73 @@
 -- How the evaluator shows the state of a thread.
-use Rattle.std.specs.Prelude.{◌≡◌, ℕ, List, [], ◌∷◌, Some, Result, Ok, Err, drop}
-use Rattle.lisp_base.specs.declared.condition.Class.{Class}
+use Rattle.std.specs.Prelude.{◌≡◌, ◌^◌, List, [], ◌∷◌, ◌++◌, map}
 use Rattle.lisp_base.specs.declared.value.Node.{Node}
-use Rattle.lisp_program.specs.Points.{Points, Done, Do, Ask}
-use Rattle.world_semantics.specs.declared.phase.Ending.TheVariants.{Aborted}
-use Rattle.thread_semantics.specs.State.{Base, Control, At, Exit, Ended, ThreadState}
-use Rattle.lisp_session.specs.declared.steps.Step.{Step}
-use Rattle.lisp_session.specs.declared.steps.Step.TheVariants.{Act, Ask as AskStep}
+use Rattle.environment_semantics.specs.Environment.{Binding}
+use Rattle.binding_stack.specs.Stack.{Bound, Stack}
+use Rattle.form_steps.specs.declared.steps.Step.{Step}
+use Rattle.form_steps.specs.declared.steps.Step.TheVariants.{Leave}
+use Rattle.form_steps.specs.Steps.{steps_of}
+use Rattle.thread_semantics.specs.State.{FrameKind, BindFrame, Frame, Base, Control, At, Exit, Ended, ThreadState}
+use Rattle.lisp_session.specs.declared.evaluator.Doing.{Doing}
 use Rattle.lisp_session.specs.declared.evaluator.Doing.TheVariants.{Running, Leaving, Over}
+use Rattle.lisp_session.specs.declared.evaluator.OpenFrame.{OpenFrame}
 use Rattle.lisp_session.specs.declared.evaluator.Evaluator.{Evaluator}
 
--- the points of a stretch as steps, one after the other
-abbrev pub steps_of : Points → List Step
-steps_of Done = []
-steps_of (Do act place after) = Act act ∷ steps_of after
-steps_of (Ask question place after) = AskStep question ∷ steps_of after
+-- the steps that wait with the open frames, innermost first: each frame is left, and goes on
+abbrev pub waiting_steps : List Frame → List Step
+waiting_steps [] = []
+waiting_steps (f ∷ fs) = Leave ∷ (steps_of f.after ++ waiting_steps fs)
 
--- the evaluator of a thread with this control that took so many points
-abbrev pub shown_at : Control → ℕ → Evaluator
-shown_at (At points values) taken = record { doing = Running; ahead = steps_of points; values = values; points = taken }
-shown_at (Exit (Base ending)) taken = record { doing = Leaving ending; ahead = []; values = []; points = taken }
-shown_at Ended taken = record { doing = Over; ahead = []; values = []; points = taken }
+-- what is shown of an open frame
+abbrev pub shown_frame : Frame → OpenFrame
+shown_frame f = record { place = f.place; values = f.values }
 
--- the evaluator stands for a state without open forms
+-- a binding, whose word is the place that the symbol names
+abbrev pub shown_binding : Binding → Bound
+shown_binding b = record { symbol = b.symbol; word = b.place }
+
+-- the bindings of a map
+abbrev pub shown_bindings : List Binding → Stack
+shown_bindings bindings = record { bindings = map shown_binding bindings; symbols = 2 ^ 31 }
+
+-- what the thread is about, the steps ahead and the values at hand, by its control
+abbrev pub doing_of : Control → Doing
+doing_of (At points values) = Running
+doing_of (Exit (Base ending)) = Leaving ending
+doing_of Ended = Over
+
+abbrev pub ahead_of : Control → List Frame → List Step
+ahead_of (At points values) frames = steps_of points ++ waiting_steps frames
+ahead_of (Exit target) frames = []
+ahead_of Ended frames = []
+
+abbrev pub values_of : Control → List Node
+values_of (At points values) = values
+values_of (Exit target) = []
+values_of Ended = []
+
+-- the evaluator of a state
+abbrev pub shown_of : ThreadState → Evaluator
+shown_of s =
+    record {
+      doing = doing_of s.control;
+      ahead = ahead_of s.control s.frames;
+      values = values_of s.control;
+      frames = map shown_frame s.frames;
+      bindings = shown_bindings s.environment.bindings;
+      store = s.store;
+      points = s.points;
+    }
+
+-- the map that a frame holds
+abbrev pub held_map : FrameKind → List Binding
+held_map (BindFrame bindings) = bindings
+
+-- each frame holds the map as it was before its binding
+abbrev pub Nested : List Binding → List Frame → Type 0
+Nested bindings [] = bindings ≡ []
+Nested bindings (f ∷ fs) = (b : Binding) × (bindings ≡ b ∷ held_map f.kind) × Nested (held_map f.kind) fs
+
+-- the evaluator stands for a state whose frames hold the maps that are nested in its own
 pub record Stands (s : ThreadState) (e : Evaluator) : Type 0 where
-  pub shown : e ≡ shown_at s.control s.points
-  pub bare : s.frames ≡ []
-
--- the evaluator after an act that gave these values, or signalled this class
-abbrev pub shown_after : Result (List Node) Class → Evaluator → Evaluator
-shown_after (Ok values) e = record e { ahead = drop 1 e.ahead; values = values }
-shown_after (Err class) e = record e { doing = Leaving (Aborted (Some (record { class = class }))); ahead = []; values = [] }
+  pub shown : e ≡ shown_of s
+  pub nested : Nested s.environment.bindings s.frames

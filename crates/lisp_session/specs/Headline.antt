@@ -9,6 +9,7 @@ use Rattle.run_semantics.specs.Over.{IsOver}
 use Rattle.run_semantics.specs.Report.{report_of, status_of}
 use Rattle.lisp_reader.specs.Grammar.{Reads}
 use Rattle.lisp_reader.specs.Reading.{IsRefused}
+use Rattle.symbol_table.specs.Names.{first_symbols}
 use Rattle.lisp_journal.specs.Journal.{journal_text}
 use Rattle.lisp_journal.specs.Report.{report_text}
 use Rattle.lisp_journal.specs.Refusal.{refusal_line, words_line}
@@ -29,16 +30,17 @@ IsWhole (Some all) None bytes = ⊥
 IsWhole (Some all) (Some rest) bytes = (bytes ≡ all) × (rest ≡ [])
 
 -- The bytes are an accepted program, and it has a run that is over, with this text and this status: a journal that
--- replays as a run of the interleaving semantics, and the report of its last state, in which no thread can step.
+-- replays as a run of the interleaving semantics, and the report of its last state, in which no thread can step. No text
+-- that is read yet names a special variable, or a symbol that is not there at first.
 -- The status is 0 exactly where every thread has ended there, else 3.
 pub record IsRunText (bytes text : List ℕ) (status : ℕ) : Type 0 where
   pub forms : Forms
   pub reads : Reads bytes forms
   pub journal : List Entry
   pub last : Configuration
-  pub replays : Replays steps forms journal last
+  pub replays : Replays steps (record { forms = forms; specials = [] }) journal last
   pub over : IsOver steps last
-  pub written : text ≡ journal_text journal ++ report_text (report_of steps last)
+  pub written : text ≡ journal_text first_symbols journal ++ report_text first_symbols (report_of steps last)
   pub which : status ≡ status_of last.threads
 
 -- The headline: what the source had left was an accepted program, and the sink gained the whole text of a run of it.

@@ -1,6 +1,7 @@
 pub mod Lists
 pub mod Evaluator
-pub mod Flatten
+pub mod Moves
+pub mod Globals
 pub mod Running
 pub mod Headline
 pub mod Answer

@@ -13,6 +13,7 @@ use lisp_program::form::Program;
 use lisp_reader::reader::read_forms;
 use lisp_reader::refusal::ReadRefusal;
 use std::alloc::Global;
+use symbol_table::symbols::Symbols;
 
 /// The points that a thread may take.
 const STEPS: u32 = 100_000;
@@ -30,9 +31,10 @@ pub(crate) enum Answer {
 fn run_text(alloc: Global, program: &Program) -> Result<Answer, Memory>
     ensures { IfOk result (λ answer. (bytes : List ℕ) → Reads bytes (forms_of program.now) → Answers bytes answer) }
 {
-    let finished = run_program(alloc, program, STEPS)?;
-    let mut text = write_journal(alloc, finished.entries.as_slice())?;
-    let report = write_report(alloc, &finished.report)?;
+    let symbols = Symbols::new(alloc)?;
+    let finished = run_program(alloc, program, &[], STEPS)?;
+    let mut text = write_journal(alloc, &symbols, finished.entries.as_slice())?;
+    let report = write_report(alloc, &symbols, &finished.report)?;
     text.push_str(report.as_str())?;
     Ok(Answer::OfRun(text, finished.report.status))
 }

@@ -1,14 +1,15 @@
 //! The top calls: a program from its bytes to its journal and report.
 #![tactic(auto)]
 
+mod ahead;
 mod answer;
 mod evaluator;
-mod flatten;
+mod globals;
 mod input;
+mod moves;
 mod output;
 mod run;
 mod stack;
-mod steps;
 #[cfg(test)]
 mod tests;
 pub mod top;

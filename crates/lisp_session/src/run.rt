@@ -1,29 +1,35 @@
 ghost use Rattle.std.specs.Prelude.{◌≡◌, ℕ, suc, ◌+◌, ◌<◌, ◌^◌, [], ◌∷◌, length, IfOk, OnOk};
-ghost use Rattle.lisp_program.specs.Forms.{Forms, forms_of};
+ghost use Rattle.lisp_program.specs.Program.{Program as Whole};
+ghost use Rattle.lisp_program.specs.Forms.{forms_of};
 ghost use Rattle.run_semantics.specs.Run.{RunsAs};
-ghost use Rattle.run_semantics.specs.Report.{unless_out, thread_report, status_of};
+ghost use Rattle.run_semantics.specs.Report.{unless_out, status_of, phase_shown};
+ghost use Rattle.world_semantics.specs.World.{unbound_all};
 ghost use Rattle.thread_semantics.specs.State.{ThreadState};
 ghost use Rattle.lisp_session.specs.Evaluator.{Stands};
-ghost use Rattle.lisp_session.specs.Running.{Ran, Stops, Goes, AsksFor, phase_by};
+ghost use Rattle.lisp_session.specs.Running.{Ran, Stops, Goes, AsksFor, phase_by, globals_by, reply_by, shown_forms};
 
-use crate::evaluator::{Doing, Evaluator};
-use crate::flatten::main_steps;
-use lisp_base::id::{Actor, ThreadId};
+use crate::evaluator::{Doing, Evaluator, OpenFrame};
+use crate::globals;
+use crate::stack::Stack;
+use form_steps::flatten::main_steps;
+use lisp_base::id::{Actor, SymbolId, ThreadId};
 use lisp_base::memory::Memory;
 use lisp_base::sequence::Sequence;
 use lisp_base::value::Value;
 use lisp_program::form::Program;
-use run_semantics::report::{PhaseReport, Report, ThreadLine, ThreadReport};
+use run_semantics::report::{FrameWord, OpenForm, PhaseReport, Report, ThreadLine, ThreadReport};
 use std::alloc::Global;
 use thread_semantics::next::Next;
 use world_semantics::entry::Entry;
+use world_semantics::global::Global as SpecialVariable;
 use world_semantics::op::{Op, Reply};
 use world_semantics::phase::Phase;
 
-/// A run of main alone: its evaluator, its phase, and the entries so far.
+/// A run of main alone: its evaluator, the special variables with their global values, its phase, and the entries so far.
 #[derive(Drop)]
 pub(crate) struct Run {
     pub(crate) evaluator: Evaluator,
+    pub(crate) globals: Sequence<SpecialVariable>,
     pub(crate) phase: Phase,
     pub(crate) entries: Sequence<Entry>,
 }
@@ -38,17 +44,75 @@ fn phase_after(phase: &Phase, op: &Op) -> Phase
     }
 }
 
+/// What an operation answers.
+fn reply_to(globals: &Sequence<SpecialVariable>, op: &Op) -> Reply
+    ensures { result ≡ reply_by op.now globals.now }
+{
+    match op {
+        Op::Get(symbol) => match globals::value_of(globals, *symbol) {
+            Some(value) => Reply::Value(value),
+            None => Reply::Unbound,
+        },
+        Op::Boundp(symbol) => Reply::Truth(globals::value_of(globals, *symbol).is_some()),
+        _ => Reply::Okay,
+    }
+}
+
+/// Does what an operation does to the global values.
+fn change(globals: &mut Sequence<SpecialVariable>, op: &Op)
+    ensures { globals.new ≡ globals_by op.now globals.old }
+{
+    match op {
+        Op::Set(symbol, value) => globals::write(globals, *symbol, *value),
+        _ => {}
+    }
+}
+
+/// The special variables before the first point: none has a value.
+fn unbound_globals(
+    alloc: Global,
+    specials: &[SymbolId],
+) -> Result<Sequence<SpecialVariable>, Memory>
+    ensures { IfOk result (λ globals. globals ≡ unbound_all specials.now) }
+{
+    let mut globals = Sequence::new(alloc);
+    for at in 0..specials.len() {
+        globals.push(SpecialVariable {
+            symbol: specials[at],
+            value: None,
+        })?;
+    }
+    Ok(globals)
+}
+
+/// The open forms, innermost first. The frames are taken away.
+fn open_forms(alloc: Global, frames: &mut Stack<OpenFrame>) -> Result<Sequence<OpenForm>, Memory>
+    ensures { IfOk result (λ forms. forms ≡ shown_forms frames.old) }
+{
+    let mut forms = Sequence::new(alloc);
+    for _frame in 0..frames.len() {
+        if let Some(frame) = frames.take() {
+            forms.push(OpenForm {
+                kind: FrameWord::Bind,
+                place: frame.place,
+            })?;
+        }
+    }
+    Ok(forms)
+}
+
 impl Run {
     /// Takes a point, and says whether there was one to take.
     #[tactic(auto, using(crate::proofs::Turned::local_ran, crate::proofs::Turned::nothing_left))]
-    fn turn(&mut self) -> Result<bool, Memory>
+    fn turn(&mut self, alloc: Global) -> Result<bool, Memory>
         requires points { self.old.evaluator.points < 2 ^ 32 }
+        requires symbols { self.old.evaluator.bindings.symbols ≡ 2 ^ 31 }
         requires entries { length self.old.entries < 2 ^ 32 }
-        ensures { (limit : ℕ) (f : Forms) (taken : ℕ) → Ran limit f taken self.old → taken < limit → IfOk result (λ goes. Goes limit f taken goes self.new) }
+        ensures { (limit : ℕ) (p : Whole) (taken : ℕ) → Ran limit p taken self.old → taken < limit → IfOk result (λ goes. Goes limit p taken goes self.new) }
     {
         match self.evaluator.next() {
             Next::Local => {
-                self.evaluator.local_step()?;
+                self.evaluator.local_step(alloc)?;
                 Ok(true)
             }
             Next::Operation(op) => {
@@ -65,57 +129,93 @@ impl Run {
         requires points { self.old.evaluator.points < 2 ^ 32 }
         requires entries { length self.old.entries < 2 ^ 32 }
         requires next { AsksFor op self.old.evaluator }
-        ensures { (limit : ℕ) (f : Forms) (taken : ℕ) → Ran limit f taken self.old → taken < limit → OnOk result (Ran limit f (suc taken) self.new) }
+        ensures { (limit : ℕ) (p : Whole) (taken : ℕ) → Ran limit p taken self.old → taken < limit → OnOk result (Ran limit p (suc taken) self.new) }
     {
+        let reply = reply_to(&self.globals, &op);
         let phase = phase_after(&self.phase, &op);
         let entry = Entry {
             ticket: self.entries.len() as u64 + 1,
             actor: Actor::Thread(ThreadId::main()),
             point: self.evaluator.points + 1,
             op,
-            reply: Reply::Okay,
+            reply,
         };
         self.entries.push(entry)?;
-        self.evaluator.accept(Reply::Okay);
+        self.evaluator.accept(&reply)?;
+        change(&mut self.globals, &op);
         self.phase = phase;
         Ok(())
     }
 
     /// A run of main before its first point.
-    fn new(alloc: Global, program: &Program) -> Result<Self, Memory>
-        ensures { (limit : ℕ) → IfOk result (Ran limit (forms_of program.now) 0) }
+    fn new(alloc: Global, program: &Program, specials: &[SymbolId]) -> Result<Self, Memory>
+        ensures { (limit : ℕ) → IfOk result (Ran limit (record { forms = forms_of program.now; specials = specials.now }) 0) }
     {
         let steps = main_steps(alloc, program)?;
         Ok(Run {
-            evaluator: Evaluator::new(alloc, steps),
+            evaluator: Evaluator::new(alloc, steps)?,
+            globals: unbound_globals(alloc, specials)?,
             phase: Phase::Alive,
             entries: Sequence::new(alloc),
         })
     }
 
     /// Takes points as long as there are any to take.
-    fn go(&mut self, limit: u32) -> Result<(), Memory>
-        requires { (f : Forms) × Ran limit f 0 self.old }
-        ensures { (f : Forms) → Ran limit f 0 self.old → OnOk result (Stops limit f self.new) }
+    fn go(&mut self, alloc: Global, limit: u32) -> Result<(), Memory>
+        requires { (p : Whole) × Ran limit p 0 self.old }
+        ensures { (p : Whole) → Ran limit p 0 self.old → OnOk result (Stops limit p self.new) }
     {
         for _turn in 0..limit {
-            if !self.turn()? {
+            if !self.turn(alloc)? {
                 return Ok(());
             }
         }
         Ok(())
     }
 
-    /// What main shows of itself.
-    fn thread_report(&self, limit: u32) -> ThreadReport
-        ensures { (s : ThreadState) → Stands s self.now.evaluator → result ≡ thread_report limit s }
+    /// Where main stands, as it shows by itself.
+    fn phase_report(&self, limit: u32) -> PhaseReport
+        ensures { (s : ThreadState) → Stands s self.now.evaluator → result ≡ phase_shown s.control limit s.points }
     {
-        let points = self.evaluator.points;
-        let phase = match self.evaluator.doing {
+        match self.evaluator.doing {
             Doing::Over => PhaseReport::Ended,
-            _ => unless_out(u64::from(limit), points),
+            _ => unless_out(u64::from(limit), self.evaluator.points),
+        }
+    }
+
+    /// What a run that is over leaves.
+    fn finish(self, alloc: Global, limit: u32) -> Result<Finished, Memory>
+        ensures { (p : Whole) → Stops limit p self → IfOk result (λ finished. RunsAs limit p finished.entries finished.report) }
+    {
+        let status = self.status();
+        let reported = self.phase_report(limit);
+        let Run {
+            evaluator,
+            globals,
+            phase,
+            entries,
+        } = self;
+        let Evaluator {
+            mut frames,
+            points,
+            ..
+        } = evaluator;
+        let machine = ThreadReport {
+            phase: reported,
+            points,
+            frames: open_forms(alloc, &mut frames)?,
         };
-        ThreadReport { phase, points }
+        let line = ThreadLine {
+            name: Value::nil(),
+            phase,
+            machine,
+        };
+        let report = Report {
+            threads: Sequence::of(vec![in alloc; line]?),
+            globals,
+            status,
+        };
+        Ok(Finished { entries, report })
     }
 
     /// 0 where main has ended, else 3.
@@ -126,22 +226,6 @@ impl Run {
             Doing::Over => 0,
             _ => 3,
         }
-    }
-
-    /// The report of a run that is over.
-    fn report(&self, alloc: Global, limit: u32) -> Result<Report, Memory>
-        ensures { (f : Forms) → Stops limit f self.now → IfOk result (RunsAs limit f self.now.entries) }
-    {
-        let line = ThreadLine {
-            name: Value::nil(),
-            phase: self.phase,
-            machine: self.thread_report(limit),
-        };
-        let threads = Sequence::of(vec![in alloc; line]?);
-        Ok(Report {
-            threads,
-            status: self.status(),
-        })
     }
 }
 
@@ -163,18 +247,16 @@ pub(crate) struct Finished {
     pub(crate) report: Report,
 }
 
-/// Runs a program, with at most `limit` points for main.
-pub(crate) fn run_program(alloc: Global, program: &Program, limit: u32) -> Result<Finished, Memory>
-    ensures { IfOk result (λ finished. RunsAs limit (forms_of program.now) finished.entries finished.report) }
+/// Runs a program with these special variables, in order of definition, with at most `limit` points for main.
+pub(crate) fn run_program(
+    alloc: Global,
+    program: &Program,
+    specials: &[SymbolId],
+    limit: u32,
+) -> Result<Finished, Memory>
+    ensures { IfOk result (λ finished. RunsAs limit (record { forms = forms_of program.now; specials = specials.now }) finished.entries finished.report) }
 {
-    let mut run = Run::new(alloc, program)?;
-    run.go(limit)?;
-    let report = run.report(alloc, limit)?;
-    let Run {
-        evaluator,
-        phase: _,
-        entries,
-    } = run;
-    drop(evaluator);
-    Ok(Finished { entries, report })
+    let mut run = Run::new(alloc, program, specials)?;
+    run.go(alloc, limit)?;
+    run.finish(alloc, limit)
 }

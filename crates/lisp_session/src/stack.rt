@@ -1,4 +1,4 @@
-ghost use Rattle.std.specs.Prelude.{◌≡◌, List, [], ◌∷◌, drop, OnOk};
+ghost use Rattle.std.specs.Prelude.{◌≡◌, [], ◌∷◌, length, take, drop, OnOk, IfOk};
 ghost use Rattle.lisp_session.specs.Lists.{front_of};
 
 use lisp_base::memory::Memory;
@@ -19,7 +19,7 @@ impl<T> Model for Stack<T> {
     ghost view = { λ s. reverse s.items.items };
 }
 
-impl<T: Copy + Drop> Stack<T> {
+impl<T: Drop> Stack<T> {
     /// An empty stack. It takes no memory.
     pub(crate) fn new(alloc: Global) -> Self
         ensures { result ≡ [] }
@@ -29,11 +29,12 @@ impl<T: Copy + Drop> Stack<T> {
         }
     }
 
-    /// The top item.
-    pub(crate) fn front(&self) -> Option<T>
-        ensures { result ≡ front_of self.now }
+    /// How many items there are.
+    #[tactic(auto, using(crate::proofs::Advances::length_reversed))]
+    pub(crate) fn len(&self) -> usize
+        ensures { result ≡ length self.now }
     {
-        self.items.last().copied()
+        self.items.as_slice().len()
     }
 
     /// Puts an item on top.
@@ -42,6 +43,14 @@ impl<T: Copy + Drop> Stack<T> {
     {
         self.items.push(item)?;
         Ok(())
+    }
+
+    /// Takes the top item away and gives it, where there is one.
+    pub(crate) fn take(&mut self) -> Option<T>
+        ensures item { result ≡ front_of self.old }
+        ensures rest { self.new ≡ drop 1 self.old }
+    {
+        self.items.pop()
     }
 
     /// Takes the top item away, where there is one.
@@ -56,5 +65,27 @@ impl<T: Copy + Drop> Stack<T> {
         ensures { self.new ≡ [] }
     {
         self.items.clear();
+    }
+}
+
+impl<T: Copy + Drop> Stack<T> {
+    /// The top item.
+    pub(crate) fn front(&self) -> Option<T>
+        ensures { result ≡ front_of self.now }
+    {
+        self.items.last().copied()
+    }
+
+    /// Takes so many items off the top, and gives them as a stack of their own.
+    #[tactic(auto, using(crate::proofs::Advances::front_reversed, crate::proofs::Advances::rest_reversed))]
+    pub(crate) fn take_front(&mut self, alloc: Global, count: usize) -> Result<Stack<T>, Memory>
+        ensures front { IfOk result (λ front. front ≡ take count self.old) }
+        ensures rest { OnOk result (self.new ≡ drop count self.old) }
+    {
+        let items = self.items.as_slice();
+        let kept = items.len().saturating_sub(count);
+        let front = Vec::from_slice(alloc, &items[kept..])?;
+        self.items.truncate(kept);
+        Ok(Stack { items: front })
     }
 }

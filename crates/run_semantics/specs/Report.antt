@@ -2,7 +2,10 @@
 use Rattle.std.specs.Prelude.{ℕ, List, [], ◌∷◌, Bool, true, false, if◌then◌else◌, nat_lt}
 use Rattle.lisp_program.specs.Points.{nil}
 use Rattle.world_semantics.specs.declared.phase.Phase.{Phase}
-use Rattle.thread_semantics.specs.State.{Control, At, Exit, Ended, ThreadState}
+use Rattle.thread_semantics.specs.State.{FrameKind, BindFrame, Frame, Control, At, Exit, Ended, ThreadState}
+use Rattle.run_semantics.specs.declared.report.FrameWord.{FrameWord}
+use Rattle.run_semantics.specs.declared.report.FrameWord.TheVariants.{Bind}
+use Rattle.run_semantics.specs.declared.report.OpenForm.{OpenForm}
 use Rattle.run_semantics.specs.declared.report.PhaseReport.{PhaseReport}
 use Rattle.run_semantics.specs.declared.report.PhaseReport.TheVariants.{Ended as IsEnded, OutOfPoints, Runnable}
 use Rattle.run_semantics.specs.declared.report.ThreadReport.{ThreadReport}
@@ -19,9 +22,18 @@ phase_shown (At points values) limit taken = unless_out limit taken
 phase_shown (Exit target) limit taken = unless_out limit taken
 phase_shown Ended limit taken = IsEnded
 
+-- the word for a kind of frame
+abbrev pub word_for : FrameKind → FrameWord
+word_for (BindFrame bindings) = Bind
+
+-- the open forms, innermost first
+abbrev pub open_forms : List Frame → List OpenForm
+open_forms [] = []
+open_forms (f ∷ fs) = (record { kind = word_for f.kind; place = f.place }) ∷ open_forms fs
+
 -- what a thread shows of itself
 abbrev pub thread_report : ℕ → ThreadState → ThreadReport
-thread_report limit s = record { phase = phase_shown s.control limit s.points; points = s.points }
+thread_report limit s = record { phase = phase_shown s.control limit s.points; points = s.points; frames = open_forms s.frames }
 
 -- A line for each thread, by number, with the phase that all see. Each name is kept as NIL, since main alone
 -- is there.
@@ -40,5 +52,10 @@ abbrev pub status_of : List ThreadState → ℕ
 status_of [] = 0
 status_of (s ∷ ss) = if has_ended s.control then status_of ss else 3
 
+-- each thread, each special variable in order of definition, and the status
 abbrev pub report_of : ℕ → Configuration → Report
-report_of limit c = record { threads = thread_lines limit c.world.phases c.threads; status = status_of c.threads }
+report_of limit c = record {
+  threads = thread_lines limit c.world.phases c.threads;
+  globals = c.world.globals;
+  status = status_of c.threads;
+}

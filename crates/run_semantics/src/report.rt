@@ -1,5 +1,7 @@
+use lisp_base::id::Place;
 use lisp_base::sequence::Sequence;
 use lisp_base::value::Value;
+use world_semantics::global::Global;
 use world_semantics::phase::Phase;
 
 /// Where a thread stands, as it shows by itself.
@@ -13,15 +15,29 @@ pub enum PhaseReport {
     Runnable,
 }
 
-/// What a thread shows of itself: where it stands, and how many points it took.
+/// The word for a kind of open form.
 #[derive(Clone, Copy, Debug, PartialEq, Eq)]
+pub enum FrameWord {
+    Bind,
+}
+
+/// An open form: its kind and its place.
+#[derive(Clone, Copy, Debug, PartialEq, Eq)]
+pub struct OpenForm {
+    pub kind: FrameWord,
+    pub place: Place,
+}
+
+/// What a thread shows of itself: where it stands, how many points it took, and its open forms, innermost first.
+#[derive(Debug, Drop)]
 pub struct ThreadReport {
     pub phase: PhaseReport,
     pub points: u64,
+    pub frames: Sequence<OpenForm>,
 }
 
 /// What the report says of one thread.
-#[derive(Clone, Copy, Debug, PartialEq, Eq)]
+#[derive(Debug, Drop)]
 pub struct ThreadLine {
     /// Its name, a string or NIL. That of main is kept as NIL.
     pub name: Value,
@@ -29,9 +45,10 @@ pub struct ThreadLine {
     pub machine: ThreadReport,
 }
 
-/// The report of the last state: the threads by number, and the status.
+/// The report of the last state: the threads by number, the special variables in order of definition, and the status.
 #[derive(Debug, Drop)]
 pub struct Report {
     pub threads: Sequence<ThreadLine>,
+    pub globals: Sequence<Global>,
     pub status: u8,
 }

@@ -1,17 +1,37 @@
-ghost use Rattle.std.specs.Prelude.{pos};
-ghost use Rattle.lisp_base.specs.Forest.{NoTrees};
+ghost use Rattle.std.specs.Prelude.{pos, [], ◌∷◌, Some};
+ghost use Rattle.lisp_base.specs.declared.condition.Class.TheVariants.{IntegerRange};
 ghost use Rattle.lisp_base.specs.declared.value.Node.TheVariants.{Int};
 ghost use Rattle.lisp_program.specs.Points.{nil};
-ghost use Rattle.world_semantics.specs.declared.phase.Ending.TheVariants.{Returned};
+ghost use Rattle.world_semantics.specs.declared.phase.Ending.TheVariants.{Returned, Aborted};
 ghost use Rattle.run_semantics.specs.Run.{RunsAs};
-ghost use Rattle.run_semantics.specs.Rows.{main_ended, printed_sum, printed_sum_journal, no_forms_journal};
+ghost use Rattle.run_semantics.specs.Rows.{main_ended, main_out, has_value, printed_sum, printed_sum_journal, no_forms, no_forms_journal, outer_setq, outer_setq_journal, sum_past_range, sum_past_range_journal, sum_past_range_start, open_let};
 
 /// `(print (+ 1 2))` prints 3 at its fourth point and returns it at its fifth.
 pub fn a_printed_sum()
-    ensures { RunsAs 100000 printed_sum printed_sum_journal (main_ended 5 (Returned (Int (pos 3)))) }
+    ensures { RunsAs 100000 printed_sum printed_sum_journal (main_ended 5 (Returned (Int (pos 3))) []) }
 {}
 
 /// A program without forms returns NIL at its second point.
 pub fn empty_program()
-    ensures { RunsAs 100000 NoTrees no_forms_journal (main_ended 2 (Returned nil)) }
+    ensures { RunsAs 100000 no_forms no_forms_journal (main_ended 2 (Returned nil) []) }
+{}
+
+/// Leaving an inner `let` does not undo an assignment to a variable that an outer one binds.
+pub fn outer_setq_survives()
+    ensures { RunsAs 100000 outer_setq outer_setq_journal (main_ended 22 (Returned (Int (pos 0))) (has_value 5 (Int (pos 0)) ∷ has_value 6 (Int (pos 0)) ∷ [])) }
+{}
+
+/// A sum past the range leaves its `let`, one frame a point, and aborts the thread.
+pub fn a_sum_past_the_range()
+    ensures { RunsAs 100000 sum_past_range sum_past_range_journal (main_ended 15 (Aborted (Some (record { class = IntegerRange }))) (has_value 5 (Int (pos 999999999999999999)) ∷ [])) }
+{}
+
+/// Where the points run out inside a `let`, the report has it open.
+pub fn out_of_points_in_a_let()
+    ensures { RunsAs 12 sum_past_range sum_past_range_start (main_out 12 (open_let ∷ []) (has_value 5 (Int (pos 999999999999999999)) ∷ [])) }
+{}
+
+/// Where they run out after the sum signalled and before the exit leaves the `let`, it is still open.
+pub fn out_of_points_in_an_exit()
+    ensures { RunsAs 13 sum_past_range sum_past_range_start (main_out 13 (open_let ∷ []) (has_value 5 (Int (pos 999999999999999999)) ∷ [])) }
 {}

@@ -1,62 +1,29 @@
 -- What a thread does next, and the state that this leaves.
-use Rattle.std.specs.Prelude.{ℕ, zero, suc, ◌-◌, ℤ, ◌+ℤ◌, List, [], ◌∷◌, Option, Some, None, Result, Ok, Err, if◌then◌else◌, drop}
-use Rattle.lisp_base.specs.Value.{is_integer}
+use Rattle.std.specs.Prelude.{ℕ, zero, suc, ◌+◌, ◌-◌, List, [], ◌∷◌, Option, Some, None, Result, Ok, Err, Bool, true, false, ◌&&◌, nat_lt, if◌then◌else◌, unwrap_or, slice_get, length, take, drop}
 use Rattle.lisp_base.specs.declared.condition.Class.{Class}
-use Rattle.lisp_base.specs.declared.condition.Class.TheVariants.{TypeError, IntegerRange}
+use Rattle.lisp_base.specs.declared.condition.Class.TheVariants.{UnboundVariable, StorageCondition}
 use Rattle.lisp_base.specs.declared.condition.Condition.{Condition}
 use Rattle.lisp_base.specs.declared.value.Node.{Node}
-use Rattle.lisp_base.specs.declared.value.Node.TheVariants.{Int, Symbol}
-use Rattle.lisp_program.specs.declared.act.Act.{Act}
-use Rattle.lisp_program.specs.declared.act.Act.TheVariants.{Push, Discard, Add}
+use Rattle.lisp_base.specs.declared.value.Node.TheVariants.{Symbol}
+use Rattle.environment_semantics.specs.Environment.{Binding, place_of, value_of, bound, written}
+use Rattle.lisp_program.specs.declared.act.Opening.{Opening}
+use Rattle.lisp_program.specs.declared.act.Opening.TheVariants.{Bind}
 use Rattle.lisp_program.specs.declared.act.Question.{Question}
-use Rattle.lisp_program.specs.declared.act.Question.TheVariants.{Print as AskPrint, EndThread}
-use Rattle.lisp_program.specs.Points.{Points, Done, Do, Ask, nil}
+use Rattle.lisp_program.specs.declared.act.Question.TheVariants.{Print as AskPrint, Read, Write, Define, EndThread}
+use Rattle.lisp_program.specs.Points.{Points, Done, Do, Ask, Test, Enter, joined, nil}
 use Rattle.world_semantics.specs.declared.op.Op.{Op}
-use Rattle.world_semantics.specs.declared.op.Op.TheVariants.{Out, Finish}
+use Rattle.world_semantics.specs.declared.op.Op.TheVariants.{Get, Set, Boundp, Out, Finish}
 use Rattle.world_semantics.specs.declared.op.Printed.TheVariants.{Print}
 use Rattle.world_semantics.specs.declared.op.Reply.{Reply}
-use Rattle.world_semantics.specs.declared.op.Reply.TheVariants.{Okay}
+use Rattle.world_semantics.specs.declared.op.Reply.TheVariants.{Okay, Value, Unbound, Truth}
 use Rattle.world_semantics.specs.declared.phase.Ending.TheVariants.{Returned, Aborted}
 use Rattle.thread_semantics.specs.declared.next.Next.{Next}
 use Rattle.thread_semantics.specs.declared.next.Next.TheVariants.{Local, Operation, Nothing}
-use Rattle.thread_semantics.specs.State.{Frame, Target, Base, Control, At, Exit, Ended, ThreadState}
+use Rattle.thread_semantics.specs.Acts.{top, result_of}
+use Rattle.thread_semantics.specs.State.{FrameKind, BindFrame, Frame, Target, Base, Control, At, Exit, Ended, Environment, ThreadState}
 
--- the front value
-abbrev pub top : List Node → Node
-top [] = nil
-top (v ∷ vs) = v
-
--- the number of an integer
-abbrev pub integer_of : Node → Option ℤ
-integer_of (Int z) = Some z
-integer_of (Symbol s) = None
-
--- an integer in range, else `integer-range` is signalled
-abbrev pub within_range : ℤ → Result Node Class
-within_range z = if is_integer z then Ok (Int z) else Err IntegerRange
-
--- the sum of two integers; anything else is a wrong kind of argument
-abbrev pub sum_of_integers : Option ℤ → Option ℤ → Result Node Class
-sum_of_integers None b = Err TypeError
-sum_of_integers (Some x) None = Err TypeError
-sum_of_integers (Some x) (Some y) = within_range (x +ℤ y)
-
-abbrev pub sum_of : Node → Node → Result Node Class
-sum_of a b = sum_of_integers (integer_of a) (integer_of b)
-
--- a value in front of the others, where there is one
-abbrev pub put_in_front : Result Node Class → List Node → Result (List Node) Class
-put_in_front (Ok v) vs = Ok (v ∷ vs)
-put_in_front (Err class) vs = Err class
-
--- the values after an act, or the class that it signals
-abbrev pub result_of : Act → List Node → Result (List Node) Class
-result_of (Push v) vs = Ok (v ∷ vs)
-result_of Discard vs = Ok (drop 1 vs)
-result_of Add vs = put_in_front (sum_of (top (drop 1 vs)) (top vs)) (drop 2 vs)
-
--- A condition that is signalled goes to the first handler in force for it. No form has a handler yet, so the
--- thread leaves to its base, and is aborted with the condition.
+-- A condition that is signalled goes to the first handler in force for it. No form has a handler yet, so the thread
+-- leaves to its base, and is aborted with the condition.
 abbrev pub signal : Condition → ThreadState → ThreadState
 signal condition s = record s { control = Exit (Base (Aborted (Some condition))) }
 
@@ -65,19 +32,63 @@ abbrev pub acted : Result (List Node) Class → Points → ThreadState → Threa
 acted (Ok vs) after s = record s { control = At after vs }
 acted (Err class) after s = signal (record { class = class }) s
 
--- a local point of a stretch
-abbrev pub act_step : Points → List Node → ThreadState → ThreadState
-act_step Done vs s = s
-act_step (Do act place after) vs s = acted (result_of act vs) after s
-act_step (Ask question place after) vs s = s
+-- A special variable that is bound in this thread is read and written there, at a local point. The other questions are
+-- operations always.
+abbrev pub ask_step : Question → Points → List Node → ThreadState → ThreadState
+ask_step AskPrint after vs s = s
+ask_step (Read symbol) after vs s = record s { control = At after (unwrap_or (value_of symbol s.environment.bindings s.store) nil ∷ vs) }
+ask_step (Write symbol) after vs s = record s { control = At after vs; store = written symbol (top vs) s.environment.bindings s.store }
+ask_step (Define symbol) after vs s = s
+ask_step EndThread after vs s = s
+
+-- there may be 4,096 frames and 4,096 bindings
+abbrev pub has_room : ThreadState → Bool
+has_room s = nat_lt (length s.frames) 4096 && nat_lt (length s.environment.bindings) 4096
+
+-- the value that has so many others in front
+abbrev pub value_behind : ℕ → List Node → Node
+value_behind above vs = unwrap_or (slice_get vs above) nil
+
+-- A variable is bound to its value. The values in front of that go into the body, and those behind it wait with the frame,
+-- which holds the map at its entry.
+abbrev pub opened : Opening → ℕ → Points → Points → List Node → ThreadState → ThreadState
+opened (Bind symbol above) place body after vs s =
+    record s {
+      control = At body (take above vs);
+      frames = (record { kind = BindFrame s.environment.bindings; place = place; after = after; values = drop (above + 1) vs }) ∷ s.frames;
+      environment = record s.environment { bindings = (bound symbol (value_behind above vs) s.environment.bindings s.store).0 };
+      store = (bound symbol (value_behind above vs) s.environment.bindings s.store).1;
+    }
+
+-- without room nothing is opened, and `storage-condition` is signalled
+abbrev pub enter_step : Bool → Opening → ℕ → Points → Points → List Node → ThreadState → ThreadState
+enter_step true opening place body after vs s = opened opening place body after vs s
+enter_step false opening place body after vs s = signal (record { class = StorageCondition }) s
+
+-- a frame that is popped puts back what it holds
+abbrev pub put_back : FrameKind → ThreadState → ThreadState
+put_back (BindFrame bindings) s = record s { environment = record s.environment { bindings = bindings } }
+
+-- the innermost frame is left with the front value, which goes to the points that waited
+abbrev pub leave_step : List Frame → List Node → ThreadState → ThreadState
+leave_step [] vs s = s
+leave_step (f ∷ fs) vs s = put_back f.kind (record s { control = At f.after (top vs ∷ f.values); frames = fs })
 
 -- an exit pops the innermost frame
 abbrev pub pop_step : List Frame → ThreadState → ThreadState
 pop_step [] s = s
-pop_step (f ∷ fs) s = record s { frames = fs }
+pop_step (f ∷ fs) s = put_back f.kind (record s { frames = fs })
+
+-- a local point of a stretch
+abbrev pub points_step : Points → List Node → ThreadState → ThreadState
+points_step Done vs s = leave_step s.frames vs s
+points_step (Do act place after) vs s = acted (result_of act vs) after s
+points_step (Ask question place after) vs s = ask_step question after vs s
+points_step (Test symbol place value after) vs s = s
+points_step (Enter opening place body after) vs s = enter_step (has_room s) opening place body after vs s
 
 abbrev pub step_by : Control → ThreadState → ThreadState
-step_by (At points vs) s = act_step points vs s
+step_by (At points vs) s = points_step points vs s
 step_by (Exit target) s = pop_step s.frames s
 step_by Ended s = s
 
@@ -85,48 +96,83 @@ step_by Ended s = s
 abbrev pub local_step_of : ThreadState → ThreadState
 local_step_of s = step_by s.control (record s { points = suc s.points })
 
--- the operation that a question is
-abbrev pub question_op : Question → List Node → Op
-question_op AskPrint vs = Out (Print (top vs))
-question_op EndThread vs = Finish (Returned (top vs))
+-- a local point where the variable is bound in this thread, else an operation
+abbrev pub unless_bound : Option ℕ → Op → Next
+unless_bound None op = Operation op
+unless_bound (Some place) op = Local
 
-abbrev pub next_in : Points → List Node → Next
-next_in Done vs = Nothing
-next_in (Do act place after) vs = Local
-next_in (Ask question place after) vs = Operation (question_op question vs)
+-- what a question is: an operation, or for a bound variable a local point
+abbrev pub asked : Question → List Node → List Binding → Next
+asked AskPrint vs bindings = Operation (Out (Print (top vs)))
+asked (Read symbol) vs bindings = unless_bound (place_of symbol bindings) (Get symbol)
+asked (Write symbol) vs bindings = unless_bound (place_of symbol bindings) (Set symbol (top vs))
+asked (Define symbol) vs bindings = Operation (Set symbol (top vs))
+asked EndThread vs bindings = Operation (Finish (Returned (top vs)))
+
+-- where a stretch is done its frame is left, if it is in one
+abbrev pub next_of_end : List Frame → Next
+next_of_end [] = Nothing
+next_of_end (f ∷ fs) = Local
+
+abbrev pub next_in : Points → List Node → List Frame → List Binding → Next
+next_in Done vs fs bindings = next_of_end fs
+next_in (Do act place after) vs fs bindings = Local
+next_in (Ask question place after) vs fs bindings = asked question vs bindings
+next_in (Test symbol place value after) vs fs bindings = Operation (Boundp symbol)
+next_in (Enter opening place body after) vs fs bindings = Local
 
 -- an exit pops a frame; with none left the thread finishes
 abbrev pub next_of_exit : Target → List Frame → Next
 next_of_exit (Base ending) [] = Operation (Finish ending)
 next_of_exit (Base ending) (f ∷ fs) = Local
 
-abbrev pub next_by : Control → List Frame → Next
-next_by (At points vs) fs = next_in points vs
-next_by (Exit target) fs = next_of_exit target fs
-next_by Ended fs = Nothing
+abbrev pub next_by : Control → List Frame → List Binding → Next
+next_by (At points vs) fs bindings = next_in points vs fs bindings
+next_by (Exit target) fs bindings = next_of_exit target fs
+next_by Ended fs bindings = Nothing
 
 -- what comes next for a thread
 abbrev pub next_of : ThreadState → Next
-next_of s = next_by s.control s.frames
+next_of s = next_by s.control s.frames s.environment.bindings
 
--- `print` gives its argument, and a thread that finished has ended
-abbrev pub replied_to : Question → Points → List Node → Reply → Control
-replied_to AskPrint after vs Okay = At after vs
-replied_to EndThread after vs Okay = Ended
+-- a global value that was read goes in front; without one `unbound-variable` is signalled
+abbrev pub read_reply : Reply → Points → List Node → ThreadState → ThreadState
+read_reply (Value v) after vs s = record s { control = At after (v ∷ vs) }
+read_reply Unbound after vs s = signal (record { class = UnboundVariable }) s
+read_reply Okay after vs s = s
+read_reply (Truth b) after vs s = s
 
-abbrev pub replied_in : Points → List Node → Reply → Control
-replied_in Done vs reply = At Done vs
-replied_in (Do act place after) vs reply = At (Do act place after) vs
-replied_in (Ask question place after) vs reply = replied_to question after vs reply
+-- `print` and `setq` give their value, `defvar` its symbol, and a thread that finished has ended
+abbrev pub question_reply : Question → Reply → Points → List Node → ThreadState → ThreadState
+question_reply AskPrint reply after vs s = record s { control = At after vs }
+question_reply (Read symbol) reply after vs s = read_reply reply after vs s
+question_reply (Write symbol) reply after vs s = record s { control = At after vs }
+question_reply (Define symbol) reply after vs s = record s { control = At after (Symbol symbol ∷ drop 1 vs) }
+question_reply EndThread reply after vs s = record s { control = Ended }
 
-abbrev pub replied : Control → Reply → Control
-replied (At points vs) reply = replied_in points vs reply
-replied (Exit target) Okay = Ended
-replied Ended reply = Ended
+-- where the variable of a `defvar` has a value its symbol is given, else its value comes next
+abbrev pub test_reply : Reply → ℕ → Points → Points → List Node → ThreadState → ThreadState
+test_reply (Truth true) symbol value after vs s = record s { control = At after (Symbol symbol ∷ vs) }
+test_reply (Truth false) symbol value after vs s = record s { control = At (joined value after) vs }
+test_reply Okay symbol value after vs s = s
+test_reply (Value v) symbol value after vs s = s
+test_reply Unbound symbol value after vs s = s
+
+abbrev pub points_reply : Points → List Node → Reply → ThreadState → ThreadState
+points_reply Done vs reply s = s
+points_reply (Do act place after) vs reply s = s
+points_reply (Ask question place after) vs reply s = question_reply question reply after vs s
+points_reply (Test symbol place value after) vs reply s = test_reply reply symbol value after vs s
+points_reply (Enter opening place body after) vs reply s = s
+
+abbrev pub reply_by : Control → Reply → ThreadState → ThreadState
+reply_by (At points vs) reply s = points_reply points vs reply s
+reply_by (Exit target) reply s = record s { control = Ended }
+reply_by Ended reply s = s
 
 -- the state after the reply to its next operation, which is one point
 abbrev pub after_reply : Reply → ThreadState → ThreadState
-after_reply reply s = record s { control = replied s.control reply; points = suc s.points }
+after_reply reply s = reply_by s.control reply (record s { points = suc s.points })
 
 abbrev pub going_on : Next → ThreadState → (ThreadState → ThreadState) → ThreadState
 going_on Local s go = go (local_step_of s)

@@ -1,15 +1,16 @@
 -- What an operation does to the shared objects.
-use Rattle.std.specs.Prelude.{ℕ, List, [], ◌∷◌, ◌++◌, Option, Some, None, slice_get, slice_set}
+use Rattle.std.specs.Prelude.{ℕ, List, [], ◌∷◌, ◌++◌, Option, Some, None, slice_get, slice_set, is_some}
 use Rattle.lisp_base.specs.declared.id.Actor.{Actor}
 use Rattle.lisp_base.specs.declared.id.Actor.TheVariants.{Thread, Runner}
+use Rattle.lisp_base.specs.declared.value.Node.{Node}
 use Rattle.world_semantics.specs.declared.op.Op.{Op}
-use Rattle.world_semantics.specs.declared.op.Op.TheVariants.{Out, Finish}
+use Rattle.world_semantics.specs.declared.op.Op.TheVariants.{Get, Set, Boundp, Out, Finish}
 use Rattle.world_semantics.specs.declared.op.Reply.{Reply}
-use Rattle.world_semantics.specs.declared.op.Reply.TheVariants.{Okay}
+use Rattle.world_semantics.specs.declared.op.Reply.TheVariants.{Okay, Value, Unbound, Truth}
 use Rattle.world_semantics.specs.declared.phase.Ending.{Ending}
 use Rattle.world_semantics.specs.declared.phase.Phase.{Phase}
 use Rattle.world_semantics.specs.declared.phase.Phase.TheVariants.{Alive, Ended}
-use Rattle.world_semantics.specs.World.{World}
+use Rattle.world_semantics.specs.World.{World, global_of, with_global}
 
 -- an operation answers and leaves a world, or it waits and changes nothing
 pub data Outcome : Type 0 where
@@ -27,8 +28,19 @@ abbrev pub phases_after : Actor → Ending → List Phase → List Phase
 phases_after (Thread t) ending phases = ended_from (slice_get phases t) t ending phases
 phases_after Runner ending phases = phases
 
+-- the reply to `get`
+abbrev pub value_reply : Option Node → Reply
+value_reply None = Unbound
+value_reply (Some v) = Value v
+
 -- the effect of an operation
 abbrev pub effect_of : Op → Actor → World → Outcome
+-- `get` answers the global value, or that there is none
+effect_of (Get s) by w = Answers (value_reply (global_of s w.globals)) w
+-- `set` writes the global value
+effect_of (Set s v) by w = Answers Okay (record w { globals = with_global s v w.globals })
+-- `boundp` says whether there is a global value
+effect_of (Boundp s) by w = Answers (Truth (is_some (global_of s w.globals))) w
 -- `out` puts what is printed behind the output
 effect_of (Out printed) by w = Answers Okay (record w { output = w.output ++ printed ∷ [] })
 -- `finish` ends the thread that does it

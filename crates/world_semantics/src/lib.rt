@@ -2,5 +2,6 @@
 #![tactic(auto)]
 
 pub mod entry;
+pub mod global;
 pub mod op;
 pub mod phase;

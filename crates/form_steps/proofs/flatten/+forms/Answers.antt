@@ -1,10 +1,10 @@
 use Rattle.std.proofs.Common.{arith}
-use Rattle.lisp_session.proofs.Flattened.{form_written, all_written, form_more, none_there, body_written}
-use Rattle.lisp_session.proofs.flatten.+forms.Goals as goal
+use Rattle.form_steps.proofs.Flattened.{form_written, all_written, form_more, none_there, body_written}
+use Rattle.form_steps.proofs.flatten.+forms.Goals as goal
 
 pub push_form-returns-clause-writes : goal.push_form-returns-clause-writes
 push_form-returns-clause-writes t c =
-    form_written _ _ _ _ _ _ _ c.requires c.index-nodes-at.is c.in_ok-next.ensures (rw c.as_slice-start.ensures.value at c.in_ok-push_closing.ensures)
+    form_written _ _ _ _ _ _ _ _ c.requires c.index-nodes-at.is c.in_ok-push_opening.ensures c.in_ok-next.ensures (rw c.as_slice-start.ensures.value at c.in_ok-push_closing.ensures)
 
 pub push_forms-returns-then-at-nodes : goal.push_forms-returns-then-at-nodes
 push_forms-returns-then-at-nodes t c = all_written _ _ _ _ _ _ _ _ c.loop-done.invariant (omega arith)

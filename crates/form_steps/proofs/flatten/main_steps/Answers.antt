@@ -1,5 +1,5 @@
-use Rattle.lisp_session.proofs.Flattened.{main_written}
-use Rattle.lisp_session.proofs.flatten.main_steps.Goals as goal
+use Rattle.form_steps.proofs.Flattened.{main_written}
+use Rattle.form_steps.proofs.flatten.main_steps.Goals as goal
 
 pub returns : goal.returns
 returns c =

@@ -1,6 +1,6 @@
 use Rattle.std.proofs.Common.{◌+◌, ◌-◌, ◌*◌, length}
-use Rattle.lisp_session.proofs.Flattened.{Writing}
-use Rattle.lisp_session.proofs.flatten.+forms.Given as goal
+use Rattle.form_steps.proofs.Flattened.{Writing}
+use Rattle.form_steps.proofs.flatten.+forms.Given as goal
 
 -- each call has fewer nodes left, or is a part of its caller's work on the same nodes
 abbrev pub decreases-push_form : goal.decreases-push_form

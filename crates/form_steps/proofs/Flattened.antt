@@ -1,17 +1,18 @@
 -- What is written of forms so far.
-use Rattle.std.proofs.Common.{◌≡◌, ℕ, zero, suc, ◌+◌, ◌<◌, ◌≤◌, ◌≢◌, ◌⊎◌, inl, inr, List, [], ◌∷◌, ◌++◌, Bool, true, false, length, take, drop, get_or, refl, ap, sym, ◌∙◌, arith, append_assoc, add-one, drop-cons}
+use Rattle.std.proofs.Common.{◌≡◌, ℕ, zero, suc, ◌+◌, ◌<◌, ◌≤◌, ◌≢◌, ◌⊎◌, inl, inr, List, [], ◌∷◌, ◌++◌, Bool, true, false, length, drop, get_or, refl, ap, sym, ◌∙◌, arith, append_assoc, add-one, drop-cons}
 use Rattle.lisp_base.specs.Forest.{Forest, NoTrees, Tree, count_of, front, behind}
 use Rattle.lisp_program.specs.declared.act.Question.TheVariants.{EndThread}
-use Rattle.lisp_program.specs.declared.act.Act.TheVariants.{Push, Discard, Add}
+use Rattle.lisp_program.specs.declared.act.Act.TheVariants.{Push, Discard}
 use Rattle.lisp_program.specs.declared.form.CoreKind.{CoreKind}
-use Rattle.lisp_program.specs.declared.form.CoreKind.TheVariants.{Constant, Plus, Print, Progn}
 use Rattle.lisp_program.specs.declared.form.FormNode.{FormNode}
 use Rattle.lisp_program.specs.Forms.{Forms, forms_of, node_in_front}
-use Rattle.lisp_program.specs.Points.{Points, Done, Do, Ask, joined, all_of, body_of, points_of, table, nil}
-use Rattle.lisp_session.specs.declared.steps.Step.{Step}
-use Rattle.lisp_session.specs.declared.steps.Step.TheVariants.{Act, Ask as AskStep}
-use Rattle.lisp_session.specs.Evaluator.{steps_of}
-use Rattle.lisp_session.specs.Flatten.{strung, Writes, between, body_steps, under_steps, closing_steps}
+use Rattle.lisp_program.specs.Points.{Points, Done, Do, Ask, joined, body_of, points_of, table, nil}
+use Rattle.form_steps.specs.declared.steps.Step.{Step}
+use Rattle.form_steps.specs.declared.steps.Step.TheVariants.{Act, Ask as AskStep}
+use Rattle.form_steps.specs.Steps.{steps_of}
+use Rattle.form_steps.specs.Flatten.{strung, Writes, between, body_steps, under_steps, opening_steps, closing_steps}
+use Rattle.form_steps.proofs.Closed.{append-nil, closed_steps}
+use Rattle.form_steps.proofs.Joined.{steps_of-joined}
 
 -- the steps so far, and those of the `left` forms still to come, are all that is to be written
 pub record Writing (nodes : List FormNode) (from count : ℕ) (body : Bool) (old now : List Step) (at left : ℕ) : Type 0 where
@@ -19,10 +20,6 @@ pub record Writing (nodes : List FormNode) (from count : ℕ) (body : Bool) (old
   pub within : at ≤ length nodes
   pub steps : now ++ strung body (points_of (front left (forms_of (drop at nodes)))) ≡ old ++ strung body (points_of (front count (forms_of (drop from nodes))))
   pub rest : behind left (forms_of (drop at nodes)) ≡ behind count (forms_of (drop from nodes))
-
-append-nil : {T : Type 0} (xs : List T) → xs ++ [] ≡ xs
-append-nil [] = refl
-append-nil (x ∷ xs) = ap (λ ys. x ∷ ys) (append-nil xs)
 
 -- a gap where more forms are wanted and there
 pub between_there : (left : ℕ) (nodes : List FormNode) (at : ℕ) → 0 < left → at < length nodes → between true left (drop at nodes) ≡ Act Discard ∷ []
@@ -44,57 +41,21 @@ between_no_body zero ns = refl
 between_no_body (suc n) [] = refl
 between_no_body (suc n) (x ∷ xs) = refl
 
--- the steps of points behind points
-steps_of-joined : (a b : Points) → steps_of (joined a b) ≡ steps_of a ++ steps_of b
-steps_of-joined Done b = refl
-steps_of-joined (Do act p after) b = ap (λ s. Act act ∷ s) (steps_of-joined after b)
-steps_of-joined (Ask q p after) b = ap (λ s. AskStep q ∷ s) (steps_of-joined after b)
-
--- the steps of forms in turn
-steps_of-all_of : (fs : List Points) → steps_of (all_of fs) ≡ strung false fs
-steps_of-all_of [] = refl
-steps_of-all_of (f ∷ fs) = steps_of-joined f (all_of fs) ∙ ap (λ s. steps_of f ++ s) (steps_of-all_of fs)
-
-take-front : {T : Type 0} (xs ys : List T) → take (length xs) (xs ++ ys) ≡ xs
-take-front [] ys = refl
-take-front (x ∷ xs) ys = ap (λ zs. x ∷ zs) (take-front xs ys)
-
-closed_by : (old s t u : List Step) → u ≡ s ++ t → (old ++ s) ++ t ≡ old ++ (u ++ [])
-closed_by old s t u e = rw (e, append-nil, append_assoc) refl
-
--- the steps of a form are those of the forms under it, and its own
-asked_after : (fs : List Points) (last : Points) → steps_of (joined (all_of fs) last) ≡ strung false fs ++ steps_of last
-asked_after fs last = steps_of-joined (all_of fs) last ∙ ap (λ s. s ++ steps_of last) (steps_of-all_of fs)
-
--- the steps of a body are the same at each place
-body_at : (p q : ℕ) (fs : List Points) → steps_of (body_of p fs) ≡ steps_of (body_of q fs)
-body_at p q [] = refl
-body_at p q (f ∷ []) = refl
-body_at p q (f ∷ (g ∷ fs)) =
-    steps_of-joined f (Do Discard p (body_of p (g ∷ fs)))
-    ∙ ap (λ s. steps_of f ++ (Act Discard ∷ s)) (body_at p q (g ∷ fs))
-    ∙ sym (steps_of-joined f (Do Discard q (body_of q (g ∷ fs))))
-
--- closing a form completes its steps
-closed_steps : (k : CoreKind) (p : ℕ) (fs : List Points) (old : List Step)
-    → closing_steps k (length old) (old ++ under_steps k fs) ≡ old ++ (steps_of (table k p fs) ++ [])
-closed_steps (Constant v) p fs old = ap (λ s. s ++ Act (Push v) ∷ []) (take-front old (strung false fs))
-closed_steps Plus p fs old = closed_by old (strung false fs) _ _ (asked_after fs (Do Add p Done))
-closed_steps Print p fs old = closed_by old (strung false fs) _ _ (asked_after fs (table Print p []))
-closed_steps Progn p fs old = ap (λ s. old ++ s) (body_at 0 p fs ∙ sym (append-nil (steps_of (body_of p fs))))
-
 -- the node at a place, and those behind it
 drop-at : (nodes : List FormNode) (at : ℕ) (n : FormNode) → at < length nodes → n ≡ get_or nodes at n → drop at nodes ≡ n ∷ drop (at + 1) nodes
 drop-at nodes at n h is = let e : drop at nodes ≡ get_or nodes at n ∷ drop (suc at) nodes = drop-cons nodes at n h in rw (add-one, is) e
 
--- the form at a node is written once the forms under it are, and it is closed
-pub form_written : (nodes : List FormNode) (at next : ℕ) (n : FormNode) (old mid new : List Step) → at < length nodes → n ≡ get_or nodes at n
-    → Writes nodes (at + 1) n.parts (under_steps n.kind) old mid next → new ≡ closing_steps n.kind (length old) mid → Writes nodes at 1 (strung false) old new next
-form_written nodes at next n old mid new h is w e =
+-- the form at a node is written once it is opened, the forms under it are written, and it is closed
+pub form_written : (nodes : List FormNode) (at next : ℕ) (n : FormNode) (old opened mid new : List Step) → at < length nodes → n ≡ get_or nodes at n
+    → opened ≡ old ++ opening_steps n.kind n.place → Writes nodes (at + 1) n.parts (under_steps n.kind) opened mid next
+    → new ≡ closing_steps n.kind (length old) mid → Writes nodes at 1 (strung false) old new next
+form_written nodes at next n old opened mid new h is o w e =
     let under : Forms = front n.parts (forms_of (drop (at + 1) nodes)) in
     let here : forms_of (drop at nodes) ≡ node_in_front n (forms_of (drop (at + 1) nodes)) = ap forms_of (drop-at nodes at n h is) in
+    let behind' : mid ≡ (old ++ opening_steps n.kind n.place) ++ under_steps n.kind (points_of under) =
+    w.steps ∙ ap (λ s. s ++ under_steps n.kind (points_of under)) o in
     let written : new ≡ old ++ (steps_of (table n.kind n.place (points_of under)) ++ []) =
-    e ∙ ap (closing_steps n.kind (length old)) w.steps ∙ closed_steps n.kind n.place (points_of under) old in
+    e ∙ ap (closing_steps n.kind (length old)) behind' ∙ closed_steps n.kind n.place (points_of under) old in
     record { after = omega (arith, w.after); within = w.within; steps = rw here written; rest = rw here w.rest }
 
 drop_all : (nodes : List FormNode) (at : ℕ) → length nodes ≤ at → drop at nodes ≡ []
@@ -139,7 +100,7 @@ more_by (Tree k p under beside) nodes ns body now mid total left some e m r =
     let split : now ++ (steps_of form ++ (between body left ns ++ later)) ≡ total =
     ap (λ s. now ++ s) (sym (strung-cons body left ns form)) ∙ rw r e in
     let shorter : mid ≡ now ++ steps_of form = m ∙ ap (λ s. now ++ s) (append-nil (steps_of form)) in
-    rw (shorter, append_assoc, append_assoc) split
+    rw (shorter, append_assoc (now ++ steps_of form) (between body left ns) later, append_assoc now (steps_of form) (between body left ns ++ later)) split
 
 -- a node is a form
 some_form : (nodes : List FormNode) (at : ℕ) → at < length nodes → forms_of (drop at nodes) ≢ NoTrees

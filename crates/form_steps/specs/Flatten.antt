@@ -1,16 +1,17 @@
 -- Forms as steps, one after the other.
-use Rattle.std.specs.Prelude.{◌≡◌, ℕ, zero, suc, ◌≤◌, List, [], ◌∷◌, ◌++◌, Bool, true, false, length, take, drop}
+use Rattle.std.specs.Prelude.{◌≡◌, ℕ, zero, suc, ◌-◌, ◌≤◌, List, [], ◌∷◌, ◌++◌, Bool, true, false, length, take, drop, slice_set}
 use Rattle.lisp_base.specs.Forest.{front, behind}
 use Rattle.lisp_program.specs.declared.act.Act.TheVariants.{Push, Discard, Add}
-use Rattle.lisp_program.specs.declared.act.Question.TheVariants.{Print as AskPrint}
+use Rattle.lisp_program.specs.declared.act.Opening.TheVariants.{Bind as OpenBind}
+use Rattle.lisp_program.specs.declared.act.Question.TheVariants.{Print as AskPrint, Read, Write, Define}
 use Rattle.lisp_program.specs.declared.form.CoreKind.{CoreKind}
-use Rattle.lisp_program.specs.declared.form.CoreKind.TheVariants.{Constant, Plus, Print, Progn}
+use Rattle.lisp_program.specs.declared.form.CoreKind.TheVariants.{Constant, Plus, Print, Progn, Special, Setq, Defvar, Let, Bind}
 use Rattle.lisp_program.specs.declared.form.FormNode.{FormNode}
 use Rattle.lisp_program.specs.Forms.{forms_of}
 use Rattle.lisp_program.specs.Points.{Points, body_of, points_of}
-use Rattle.lisp_session.specs.declared.steps.Step.{Step}
-use Rattle.lisp_session.specs.declared.steps.Step.TheVariants.{Act, Ask}
-use Rattle.lisp_session.specs.Evaluator.{steps_of}
+use Rattle.form_steps.specs.declared.steps.Step.{Step}
+use Rattle.form_steps.specs.declared.steps.Step.TheVariants.{Act, Ask, Test, Enter, Leave}
+use Rattle.form_steps.specs.Steps.{steps_of}
 
 -- the steps of forms in turn; between two forms of a body the value of the first is discarded
 abbrev pub strung : Bool → List Points → List Step
@@ -29,13 +30,36 @@ under_steps (Constant v) = strung false
 under_steps Plus = strung false
 under_steps Print = strung false
 under_steps Progn = body_steps
+under_steps (Special s) = strung false
+under_steps (Setq s) = strung false
+under_steps (Defvar s) = strung false
+under_steps Let = strung false
+under_steps (Bind s above) = body_steps
 
--- the steps of a form that begin at `start`, once those of the forms under it are written; a constant has none
+-- the steps of a form of this kind at this place before those of the forms under it; the number of a test comes later
+abbrev pub opening_steps : CoreKind → ℕ → List Step
+opening_steps (Constant v) p = []
+opening_steps Plus p = []
+opening_steps Print p = []
+opening_steps Progn p = []
+opening_steps (Special s) p = []
+opening_steps (Setq s) p = []
+opening_steps (Defvar s) p = Test s 0 ∷ []
+opening_steps Let p = []
+opening_steps (Bind s above) p = Enter (OpenBind s above) p ∷ []
+
+-- The steps of a form that begins at `start`, once those of the forms under it are written. Under a constant or a
+-- variable there are none; a test passes over all steps behind it.
 abbrev pub closing_steps : CoreKind → ℕ → List Step → List Step
 closing_steps (Constant v) start steps = take start steps ++ Act (Push v) ∷ []
 closing_steps Plus start steps = steps ++ Act Add ∷ []
 closing_steps Print start steps = steps ++ Ask AskPrint ∷ []
 closing_steps Progn start steps = steps
+closing_steps (Special s) start steps = take start steps ++ Ask (Read s) ∷ []
+closing_steps (Setq s) start steps = steps ++ Ask (Write s) ∷ []
+closing_steps (Defvar s) start steps = slice_set steps start (Test s (length steps - start)) ++ Ask (Define s) ∷ []
+closing_steps Let start steps = steps
+closing_steps (Bind s above) start steps = steps ++ Leave ∷ []
 
 -- between two forms of a body, where more forms are wanted and more nodes are there
 abbrev pub between : Bool → ℕ → List FormNode → List Step

@@ -1,37 +1,16 @@
 ghost use Rattle.std.specs.Prelude.{◌≡◌, ◌++◌, ◌∷◌, [], ◌+◌, ◌<◌, ◌≤◌, false, drop, length, OnOk, IfOk};
 ghost use Rattle.lisp_program.specs.Forms.{forms_of};
 ghost use Rattle.lisp_program.specs.Points.{main_points, nil};
-ghost use Rattle.lisp_session.specs.Evaluator.{steps_of};
-ghost use Rattle.lisp_session.specs.Flatten.{Writes, strung, body_steps, under_steps, closing_steps, between};
+ghost use Rattle.form_steps.specs.Steps.{steps_of};
+ghost use Rattle.form_steps.specs.Flatten.{Writes, strung, body_steps, under_steps, between};
 
+use crate::own_steps::{push_closing, push_opening};
 use crate::steps::Step;
 use lisp_base::memory::Memory;
 use lisp_base::value::Value;
 use lisp_program::act::{Act, Question};
 use lisp_program::form::{CoreKind, FormNode, Program};
 use std::alloc::Global;
-
-/// Ends a form whose own steps begin at `start`, where those of the forms under it now stand.
-fn push_closing(kind: CoreKind, start: usize, steps: &mut Vec<Step>) -> Result<(), Memory>
-    ensures { OnOk result (steps.new.items ≡ closing_steps kind start steps.old.items) }
-{
-    match kind {
-        CoreKind::Constant(value) => {
-            steps.truncate(start);
-            steps.push(Step::Act(Act::Push(value)))?;
-            Ok(())
-        }
-        CoreKind::Plus => {
-            steps.push(Step::Act(Act::Add))?;
-            Ok(())
-        }
-        CoreKind::Print => {
-            steps.push(Step::Ask(Question::Print))?;
-            Ok(())
-        }
-        CoreKind::Progn => Ok(()),
-    }
-}
 
 /// Discards the value of a form of a body where `left` more forms are wanted and the node at `at` is there.
 #[tactic(auto, using(crate::proofs::Flattened::between_there, crate::proofs::Flattened::between_outside, crate::proofs::Flattened::between_no_body))]
@@ -45,7 +24,7 @@ fn push_between(
     ensures { OnOk result (steps.new.items ≡ steps.old.items ++ between body left (drop at nodes.now)) }
 {
     if body && left > 0 && at < nodes.len() {
-        steps.push(Step::Act(Act::Discard))?;
+        steps.extend_from_slice(&[Step::Act(Act::Discard)])?;
         Ok(())
     } else {
         Ok(())
@@ -83,10 +62,12 @@ fn push_form(nodes: &[FormNode], at: usize, steps: &mut Vec<Step>) -> Result<usi
     ensures writes { IfOk result (Writes nodes.now at 1 (strung false) steps.old.items steps.new.items) }
     ensures on { IfOk result (λ next. at < next) }
 {
-    let node = nodes[at];
+    let node = &nodes[at];
+    let parts = node.parts as usize;
     let start = steps.as_slice().len();
-    let next = push_under(node.kind, nodes, at + 1, node.parts as usize, steps)?;
-    push_closing(node.kind, start, steps)?;
+    push_opening(node, steps)?;
+    let next = push_under(node.kind, nodes, at + 1, parts, steps)?;
+    push_closing(node, start, steps)?;
     Ok(next)
 }
 
@@ -107,6 +88,11 @@ fn push_under(
         CoreKind::Plus => Ok(push_forms(nodes, from, count, false, steps)?),
         CoreKind::Print => Ok(push_forms(nodes, from, count, false, steps)?),
         CoreKind::Progn => Ok(push_body(nodes, from, count, steps)?),
+        CoreKind::Special(_) => Ok(push_forms(nodes, from, count, false, steps)?),
+        CoreKind::Setq(_) => Ok(push_forms(nodes, from, count, false, steps)?),
+        CoreKind::Defvar(_) => Ok(push_forms(nodes, from, count, false, steps)?),
+        CoreKind::Let => Ok(push_forms(nodes, from, count, false, steps)?),
+        CoreKind::Bind(_, _) => Ok(push_body(nodes, from, count, steps)?),
     }
 }
 
@@ -137,12 +123,12 @@ fn push_body(
 fn push_nil(steps: &mut Vec<Step>) -> Result<(), Memory>
     ensures { OnOk result (steps.new.items ≡ steps.old.items ++ Step.Act (Act.Push nil) ∷ []) }
 {
-    steps.push(Step::Act(Act::Push(Value::nil())))?;
+    steps.extend_from_slice(&[Step::Act(Act::Push(Value::nil()))])?;
     Ok(())
 }
 
 /// The steps of main: its forms as a body, and its end.
-pub(crate) fn main_steps(alloc: Global, program: &Program) -> Result<Vec<Step>, Memory>
+pub fn main_steps(alloc: Global, program: &Program) -> Result<Vec<Step>, Memory>
     ensures { IfOk result (λ steps. steps.items ≡ steps_of (main_points (forms_of program.now))) }
 {
     let nodes = program.nodes();
@@ -156,7 +142,6 @@ pub(crate) fn main_steps(alloc: Global, program: &Program) -> Result<Vec<Step>, 
 fn push_end(steps: &mut Vec<Step>) -> Result<(), Memory>
     ensures { OnOk result (steps.new.items ≡ steps.old.items ++ Step.Ask Question.EndThread ∷ []) }
 {
-    let end = [Step::Ask(Question::EndThread), Step::Act(Act::Discard)];
-    steps.push(end[0])?;
+    steps.extend_from_slice(&[Step::Ask(Question::EndThread)])?;
     Ok(())
 }

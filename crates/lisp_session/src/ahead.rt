@@ -1,15 +1,8 @@
 ghost use Rattle.std.specs.Prelude.{◌≡◌, List, [], drop};
 ghost use Rattle.lisp_session.specs.Lists.{front_of};
 
-use lisp_program::act::{Act, Question};
+use form_steps::steps::Step;
 use std::marker::Model;
-
-/// One step of a flattened form: a local point, or an operation.
-#[derive(Clone, Copy, Debug, PartialEq, Eq)]
-pub(crate) enum Step {
-    Act(Act),
-    Ask(Question),
-}
 
 /// The steps that are still ahead, which contracts see as their list.
 #[derive(Drop)]
@@ -20,7 +13,7 @@ pub(crate) struct Ahead {
 
 impl Model for Ahead {
     ghost use Rattle.std.specs.Prelude.{◌≤◌, List, drop, length};
-    ghost use Rattle.lisp_session.specs.declared.steps.Step.{Step};
+    ghost use Rattle.form_steps.specs.declared.steps.Step.{Step};
 
     ghost Value = { List Step };
 
@@ -51,6 +44,14 @@ impl Ahead {
         if self.at < self.steps.len() {
             self.at += 1;
         }
+    }
+
+    /// Leaves so many steps behind, or all where there are fewer.
+    pub(crate) fn skip(&mut self, count: usize)
+        ensures { self.new ≡ drop count self.old }
+    {
+        let left = self.steps.as_slice().len() - self.at;
+        self.at += count.min(left);
     }
 
     /// Leaves all steps behind.
