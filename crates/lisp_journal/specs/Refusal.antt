@@ -9,6 +9,7 @@ refusal_name number =
     else if number == 3 then codes "UnmatchedClose"
     else if number == 7 then codes "TooLong"
     else if number == 10 then codes "NotBuilt"
+    else if number == 13 then codes "UnknownVariable"
     else codes "?"
 
 -- the number of the refusal, its name, and the place

@@ -23,6 +23,7 @@ fn name_of(number: u32) -> &'static str
         3 => "UnmatchedClose",
         7 => "TooLong",
         10 => "NotBuilt",
+        13 => "UnknownVariable",
         _ => "?",
     }
 }

@@ -1,26 +1,28 @@
--- A text without a fault spells data, and all data that it spells stands for the same forms.
+-- A text without a fault spells data, and all data that it spells has the same items.
 use Rattle.std.proofs.Common.{◌≡◌, ℕ, suc, ◌≤◌, ◌==◌, Bool, true, false, cond, List, [], ◌∷◌, ◌++◌, length, map, Option, Some, None, is_some, refl, ap, sym, ◌∙◌, append_assoc, append-nil, arith}
-use Rattle.lisp_base.specs.Forest.{NoTrees, Tree, behind, count_of, front, joined}
-use Rattle.lisp_program.specs.Forms.{Forms, forms_of, preorder}
-use Rattle.lisp_program.specs.declared.form.FormNode.{FormNode}
-use Rattle.lisp_reader.proofs.Building.{data_builds, shown, unled_misplaced}
+use Rattle.lisp_reader.proofs.Building.{data_nodes}
 use Rattle.lisp_reader.proofs.Following.{fault_of_pieces}
-use Rattle.lisp_reader.specs.Build.{built, finished}
+use Rattle.lisp_reader.proofs.Written.{reads_back}
+use Rattle.lisp_reader.specs.Build.{built}
+use Rattle.lisp_reader.specs.Datums.{datums_of, written}
 use Rattle.lisp_reader.specs.Faults.{fault_from}
-use Rattle.lisp_reader.specs.declared.build.Built.{Built}
-use Rattle.lisp_reader.specs.Reading.{IsRefused, too_long, in_reading, in_place, fault_number, fault_place, OneReading, ReadOrRefused, OneRefusal}
+use Rattle.lisp_reader.specs.Grammar.{Data, NoData, Word', Nested, spelling, datums_in, fault_in}
+use Rattle.lisp_reader.specs.Pieces.{Piece, Opening, Closing, Letters}
+use Rattle.lisp_reader.specs.Reading.{Holds, IsRefused, too_long, in_reading, in_place, OneReading, ReadOrRefused, OneRefusal, datums_from, fault_number, fault_place, longest, names_of, pieces_of, program_of, refused_data, symbols_with}
+use Rattle.lisp_reader.specs.Refused.{definitions_in}
 use Rattle.lisp_reader.specs.Tokens.{token_of}
-use Rattle.lisp_reader.specs.declared.token.Token.{Token}
-use Rattle.lisp_reader.specs.Grammar.{Data, NoData, Word', Nested, spelling, fault_in, forms_in, misplaced, or_else, longest, Reads}
-use Rattle.lisp_reader.specs.Pieces.{Piece, Opening, Closing, Letters, pieces_from}
-use Rattle.lisp_reader.specs.Words.{word_of}
+use Rattle.lisp_reader.specs.Words.{meaning_of}
+use Rattle.lisp_reader.specs.declared.datum.DatumNode.{DatumNode}
 use Rattle.lisp_reader.specs.declared.fault.ReadFault.{ReadFault}
+use Rattle.lisp_reader.specs.declared.refusal.ReadRefusal.TheVariants.{Refused}
+use Rattle.lisp_reader.specs.declared.token.Token.{Token}
 
 -- what comes after data: the ends of the lists around it, each with its place, and the data after it
 abbrev spellings : List (ℕ × Data) → List Piece
 spellings [] = []
 spellings (r ∷ rs) = Closing r.0 ∷ (spelling r.1 ++ spellings rs)
 
+-- the pieces spell data, and then what comes after it in as many lists as are open
 record IsSpelled (opens : List ℕ) (ps : List Piece) : Type 0 where
   under : Data
   rest : List (ℕ × Data)
@@ -32,10 +34,12 @@ no_fault_first : (b : Bool) (f : ReadFault) (later : Option ReadFault) → cond 
 no_fault_first true f later h = cc
 no_fault_first false f later h = h
 
+-- the same with the fault second
 no_fault_second : (b : Bool) (f : ReadFault) (later : Option ReadFault) → cond b later (Some f) ≡ None → later ≡ None
 no_fault_second true f later h = h
 no_fault_second false f later h = cc
 
+-- a list, from what is spelled behind its beginning
 list_spelled : (p : ℕ) (opens : List ℕ) (ps : List Piece) (under : Data) (rest : List (ℕ × Data))
     → length rest ≡ suc (length opens) → ps ≡ spelling under ++ spellings rest → IsSpelled opens (Opening p ∷ ps)
 list_spelled p opens ps under [] many h = cc
@@ -47,6 +51,7 @@ list_spelled p opens ps under (r ∷ rs) many h =
       spelled = ap (λ x. Opening p ∷ x) (h ∙ sym (append_assoc (spelling under) (Closing r.0 ∷ spelling r.1) (spellings rs)));
     }
 
+-- pieces without a fault spell data
 spells : (opens : List ℕ) (ps : List Piece) → fault_in opens ps ≡ None → IsSpelled opens ps
 spells [] [] h = record { under = NoData; rest = []; many = refl; spelled = refl }
 spells (o ∷ opens) [] h = cc
@@ -63,7 +68,7 @@ spells (o ∷ opens) (Closing q ∷ ps) h =
       spelled = ap (λ x. Closing q ∷ x) r.spelled;
     }
 spells opens (Letters p letters ∷ ps) h =
-    let r : IsSpelled opens ps = spells opens ps (no_fault_second (is_some (word_of letters)) _ _ h) in
+    let r : IsSpelled opens ps = spells opens ps (no_fault_second (is_some (meaning_of letters)) _ _ h) in
     record {
       under = Word' p letters r.under;
       rest = r.rest;
@@ -71,136 +76,93 @@ spells opens (Letters p letters ∷ ps) h =
       spelled = ap (λ x. Letters p letters ∷ x) r.spelled;
     }
 
--- a forest read back from its preorder
-front-joined : (f g : Forms) → front (count_of f) (joined f g) ≡ f
-front-joined NoTrees g = refl
-front-joined (Tree k p under beside) g = ap (Tree k p under) (front-joined beside g)
-
-behind-joined : (f g : Forms) → behind (count_of f) (joined f g) ≡ g
-behind-joined NoTrees g = refl
-behind-joined (Tree k p under beside) g = behind-joined beside g
-
-forms_of-preorder : (f : Forms) (ns : List FormNode) → forms_of (preorder f ++ ns) ≡ joined f (forms_of ns)
-forms_of-preorder NoTrees ns = refl
-forms_of-preorder (Tree k p under beside) ns =
-    let rest : forms_of ((preorder under ++ preorder beside) ++ ns) ≡ joined under (joined beside (forms_of ns)) =
-    rw append_assoc (forms_of-preorder under (preorder beside ++ ns) ∙ ap (joined under) (forms_of-preorder beside ns)) in
-    rw (rest, front-joined under, behind-joined under) refl
-
-joined_none : (f : Forms) → joined f NoTrees ≡ f
-joined_none NoTrees = refl
-joined_none (Tree k p under beside) = ap (Tree k p under) (joined_none beside)
-
--- what a text builds, where data spells it
-abbrev tokens_of : List ℕ → List Token
-tokens_of bytes = map token_of (pieces_from 0 bytes)
-
-text_builds : (bytes : List ℕ) (d : Data) → spelling d ≡ pieces_from 0 bytes → built (tokens_of bytes) ≡ shown d []
-text_builds bytes d is = ap (λ ps. built (map token_of ps)) (sym is) ∙ data_builds d
-
-text_forms : (bytes : List ℕ) (d : Data) → spelling d ≡ pieces_from 0 bytes → forms_of (built (tokens_of bytes)).nodes ≡ forms_in d
-text_forms bytes d is = rw (text_builds bytes d is, forms_of-preorder (forms_in d) [], joined_none) refl
-
-or_none : (a : Option ℕ) → or_else a None ≡ a
-or_none None = refl
-or_none (Some p) = refl
-
-text_misplaced : (bytes : List ℕ) (d : Data) → spelling d ≡ pieces_from 0 bytes
-    → (finished (built (tokens_of bytes))).misplaced ≡ misplaced false d
-text_misplaced bytes d is = rw (text_builds bytes d is) (unled_misplaced d None ∙ or_none (misplaced false d))
-
--- the law of the reader, in its two directions
+-- with no list open this is all
 alone : (ps : List Piece) (under : Data) (rest : List (ℕ × Data)) → length rest ≡ 0 → ps ≡ spelling under ++ spellings rest
     → spelling under ≡ ps
 alone ps under [] many h = sym (h ∙ append-nil (spelling under))
 alone ps under (r ∷ rs) many h = cc
 
-pub reads : (bytes : List ℕ) → length bytes ≤ longest → fault_in [] (pieces_from 0 bytes) ≡ None
-    → (finished (built (tokens_of bytes))).misplaced ≡ None → Reads bytes (forms_of (built (tokens_of bytes)).nodes)
-reads bytes short readable placed =
-    let r : IsSpelled [] (pieces_from 0 bytes) = spells [] (pieces_from 0 bytes) readable in
-    let is : spelling r.under ≡ pieces_from 0 bytes = alone _ r.under r.rest r.many r.spelled in
+-- the items of data, through what the tokens of its pieces build
+built_items : (names : List (List ℕ)) (d : Data)
+    → datums_of (built (map (token_of names) (spelling d))).nodes ≡ datums_in names d
+built_items names d = ap datums_of (data_nodes names d) ∙ reads_back names d
+
+-- all data that a text holds has the same items
+pub one_data : (bytes : List ℕ) (d e : Data) → Holds bytes d → Holds bytes e → datums_from bytes d ≡ datums_from bytes e
+one_data bytes d e h g =
+    let same : spelling d ≡ spelling e = h.spelled ∙ sym g.spelled in
+    sym (built_items (names_of bytes) d) ∙ ap (λ ps. datums_of (built (map (token_of (names_of bytes)) ps)).nodes) same ∙ built_items (names_of bytes) e
+
+-- what the passes over a text say of its nodes
+pub record IsHeld (bytes : List ℕ) (nodes : List DatumNode) : Type 0 where
+  pub data' : Data
+  pub holds : Holds bytes data'
+  pub is : nodes ≡ written (datums_from bytes data')
+
+-- no fault among the tokens, and none among the pieces
+no_fault : (bytes : List ℕ) (names : List (List ℕ)) (tokens : List Token) → tokens ≡ map (token_of names) (pieces_of bytes)
+    → None ≡ fault_from [] tokens → fault_in [] (pieces_of bytes) ≡ None
+no_fault bytes names tokens is none =
+    sym (fault_of_pieces names [] (pieces_of bytes)) ∙ ap (fault_from []) (sym is) ∙ sym none
+
+-- what the clauses of the passes say: each saw the tokens, no fault was found, and the nodes are what the tokens build
+pub holds_data : (bytes : List ℕ) (names : List (List ℕ)) (tokens seen also : List Token) (fault : Option ReadFault) (nodes : List DatumNode)
+    → length bytes ≤ longest → names ≡ names_of bytes → tokens ≡ map (token_of names) (pieces_of bytes)
+    → seen ≡ tokens → fault ≡ fault_from [] seen → fault ≡ None → also ≡ tokens → nodes ≡ (built also).nodes → IsHeld bytes nodes
+holds_data bytes names tokens seen also fault nodes short named is of_seen found none of_also made =
+    let clear : fault_in [] (pieces_of bytes) ≡ None =
+    no_fault bytes names tokens is (sym none ∙ found ∙ ap (fault_from []) of_seen) in
+    let r : IsSpelled [] (pieces_of bytes) = spells [] (pieces_of bytes) clear in
+    let spelled : spelling r.under ≡ pieces_of bytes = alone _ r.under r.rest r.many r.spelled in
+    let of : also ≡ map (token_of (names_of bytes)) (spelling r.under) =
+    of_also ∙ is ∙ ap (λ ns. map (token_of ns) (pieces_of bytes)) named ∙ ap (map (token_of (names_of bytes))) (sym spelled) in
     record {
       data' = r.under;
-      short = short;
-      spelled = is;
-      readable = readable;
-      placed = sym (text_misplaced bytes r.under is) ∙ placed;
-      is = text_forms bytes r.under is;
+      holds = record { short = short; spelled = spelled; readable = clear };
+      is = made ∙ ap (λ ts. (built ts).nodes) of ∙ data_nodes (names_of bytes) r.under;
     }
 
-pub one_reading : OneReading
-one_reading bytes f g r s =
-    r.is ∙ sym (text_forms bytes r.data' r.spelled) ∙ text_forms bytes s.data' s.spelled ∙ sym s.is
-
--- the nodes of a text are the preorder of its forms
-pub text_nodes : (bytes : List ℕ) → fault_in [] (pieces_from 0 bytes) ≡ None
-    → preorder (forms_of (built (tokens_of bytes)).nodes) ≡ (built (tokens_of bytes)).nodes
-text_nodes bytes readable =
-    let r : IsSpelled [] (pieces_from 0 bytes) = spells [] (pieces_from 0 bytes) readable in
-    let is : spelling r.under ≡ pieces_from 0 bytes = alone _ r.under r.rest r.many r.spelled in
-    ap preorder (text_forms bytes r.under is) ∙ sym (append-nil (preorder (forms_in r.under))) ∙ sym (ap (λ b. b.nodes) (text_builds bytes r.under is))
-
--- what the reader answers, from what its passes say
-no_fault : (bytes : List ℕ) (tokens : List Token) → tokens ≡ tokens_of bytes → None ≡ fault_from [] tokens
-    → fault_in [] (pieces_from 0 bytes) ≡ None
-no_fault bytes tokens is none =
-    sym (fault_of_pieces [] (pieces_from 0 bytes)) ∙ ap (fault_from []) (sym is) ∙ sym none
-
-pub reads_whole : (bytes : List ℕ) (tokens : List Token) (b : Built) → tokens ≡ tokens_of bytes → None ≡ fault_from [] tokens
-    → b ≡ finished (built tokens) → preorder (forms_of b.program) ≡ b.program
-reads_whole bytes tokens b is none made =
-    let all : b ≡ finished (built (tokens_of bytes)) = made ∙ ap (λ ts. finished (built ts)) is in
-    rw all (text_nodes bytes (no_fault bytes tokens is none))
-
-pub reads_forms : (bytes : List ℕ) (tokens : List Token) (b : Built) → length bytes ≤ longest → tokens ≡ tokens_of bytes
-    → None ≡ fault_from [] tokens → b ≡ finished (built tokens) → b.misplaced ≡ None → Reads bytes (forms_of b.program)
-reads_forms bytes tokens b short is none made placed =
-    let clear : fault_in [] (pieces_from 0 bytes) ≡ None = no_fault bytes tokens is none in
-    let all : b ≡ finished (built (tokens_of bytes)) = made ∙ ap (λ ts. finished (built ts)) is in
-    rw all (reads bytes short clear (ap (λ x. x.misplaced) (sym all) ∙ placed))
-
-pub refuses_fault : (bytes : List ℕ) (tokens : List Token) (fault : ReadFault) → length bytes ≤ longest → tokens ≡ tokens_of bytes
-    → Some fault ≡ fault_from [] tokens → IsRefused bytes (fault_number fault) (fault_place fault)
-refuses_fault bytes tokens fault short is found =
-    let first : fault_in [] (pieces_from 0 bytes) ≡ Some fault =
-    sym (fault_of_pieces [] (pieces_from 0 bytes)) ∙ ap (fault_from []) (sym is) ∙ sym found in
+-- the first fault of a text refuses it
+pub refuses_fault : (bytes : List ℕ) (names : List (List ℕ)) (tokens : List Token) (fault : ReadFault) → length bytes ≤ longest
+    → tokens ≡ map (token_of names) (pieces_of bytes) → Some fault ≡ fault_from [] tokens
+    → IsRefused bytes (fault_number fault) (fault_place fault)
+refuses_fault bytes names tokens fault short is found =
+    let first : fault_in [] (pieces_of bytes) ≡ Some fault =
+    sym (fault_of_pieces names [] (pieces_of bytes)) ∙ ap (fault_from []) (sym is) ∙ sym found in
     in_reading fault short first refl refl
 
-pub refuses_misplaced : (bytes : List ℕ) (tokens : List Token) (b : Built) (place : ℕ) → length bytes ≤ longest
-    → tokens ≡ tokens_of bytes → None ≡ fault_from [] tokens → b ≡ finished (built tokens) → b.misplaced ≡ Some place
-    → IsRefused bytes 10 place
-refuses_misplaced bytes tokens b place short is none made misplaced' =
-    let clear : fault_in [] (pieces_from 0 bytes) ≡ None = no_fault bytes tokens is none in
-    let all : b ≡ finished (built (tokens_of bytes)) = made ∙ ap (λ ts. finished (built ts)) is in
-    let r : IsSpelled [] (pieces_from 0 bytes) = spells [] (pieces_from 0 bytes) clear in
-    let spelled : spelling r.under ≡ pieces_from 0 bytes = alone _ r.under r.rest r.many r.spelled in
-    let here : misplaced false r.under ≡ Some place =
-    sym (text_misplaced bytes r.under spelled) ∙ ap (λ x. x.misplaced) (sym all) ∙ misplaced' in
-    in_place r.under short spelled clear here refl
+-- the laws
+pub one_reading : OneReading
+one_reading bytes names symbols p q r s =
+    let same : datums_from bytes r.data' ≡ datums_from bytes s.data' = one_data bytes r.data' s.data' r.holds s.holds in (
+      r.symbols ∙ ap (λ d. symbols_with (names_of bytes) (definitions_in d)) same ∙ sym s.symbols,
+      r.program ∙ ap program_of same ∙ sym s.program,
+    )
 
--- the laws of refusals
-one_misplaced : (bytes : List ℕ) (d e : Data) → spelling d ≡ pieces_from 0 bytes → spelling e ≡ pieces_from 0 bytes
-    → misplaced false d ≡ misplaced false e
-one_misplaced bytes d e is also = sym (text_misplaced bytes d is) ∙ text_misplaced bytes e also
+-- all data that a text holds has the same refusal
+one_refused : (bytes : List ℕ) (d e : Data) → Holds bytes d → Holds bytes e
+    → refused_data (datums_from bytes d) ≡ refused_data (datums_from bytes e)
+one_refused bytes d e h g = ap refused_data (one_data bytes d e h g)
 
+-- a text that is read is not refused
 pub read_or_refused : ReadOrRefused
-read_or_refused bytes forms number place r (too_long long is at) = absurd (omega (arith, r.short))
-read_or_refused bytes forms number place r (in_reading fault short found is at) = cc (r.readable)
-read_or_refused bytes forms number place r (in_place d short spelled readable found is) =
-    cc (r.placed, one_misplaced bytes d r.data' spelled r.spelled)
+read_or_refused bytes symbols program number place r (too_long long is at) = absurd (omega (arith, r.holds.short))
+read_or_refused bytes symbols program number place r (in_reading fault short found is at) = cc (r.holds.readable)
+read_or_refused bytes symbols program number place r (in_place d held found) =
+    cc (r.accepted, one_refused bytes d r.data' held r.holds)
 
+-- a text is refused once
 pub one_refusal : OneRefusal
 one_refusal bytes m n p q (too_long long is at) (too_long long' is' at') = ((cc), (cc))
 one_refusal bytes m n p q (too_long long is at) (in_reading fault short found is' at') = absurd (omega arith)
-one_refusal bytes m n p q (too_long long is at) (in_place d short spelled readable found is') = absurd (omega arith)
+one_refusal bytes m n p q (too_long long is at) (in_place d held found) = absurd (omega (arith, held.short))
 one_refusal bytes m n p q (in_reading fault short found is at) (too_long long is' at') = absurd (omega arith)
 one_refusal bytes m n p q (in_reading fault short found is at) (in_reading fault' short' found' is' at') =
     let same : fault ≡ fault' = cc in
     (is ∙ ap fault_number same ∙ sym is', at ∙ ap fault_place same ∙ sym at')
-one_refusal bytes m n p q (in_reading fault short found is at) (in_place d short' spelled readable found' is') = cc
-one_refusal bytes m n p q (in_place d short spelled readable found is) (too_long long is' at') = absurd (omega arith)
-one_refusal bytes m n p q (in_place d short spelled readable found is) (in_reading fault short' found' is' at') = cc
-one_refusal bytes m n p q (in_place d short spelled readable found is) (in_place e short' spelled' readable' found' is') =
-    let same : misplaced false d ≡ misplaced false e = one_misplaced bytes d e spelled spelled' in
+one_refusal bytes m n p q (in_reading fault short found is at) (in_place d held found') = cc (held.readable)
+one_refusal bytes m n p q (in_place d held found) (too_long long is' at') = absurd (omega (arith, held.short))
+one_refusal bytes m n p q (in_place d held found) (in_reading fault short found' is' at') = cc (held.readable)
+one_refusal bytes m n p q (in_place d held found) (in_place e held' found') =
+    let same : Some (Refused m p) ≡ Some (Refused n q) = sym found ∙ one_refused bytes d e held held' ∙ found' in
     ((cc), (cc))

@@ -1,8 +1,10 @@
-ghost use Rattle.std.specs.Prelude.{◌≡◌, ◌<◌, ◌≤◌, ◌^◌, map, length, IfOk};
+ghost use Rattle.std.specs.Prelude.{◌≡◌, ◌<◌, ◌≤◌, ◌^◌, [], map, length, IfOk, OnOk};
+ghost use Rattle.lisp_reader.specs.Names.{names_after};
 ghost use Rattle.lisp_reader.specs.Pieces.{is_separator as is_separator_byte, pieces_from};
 ghost use Rattle.lisp_reader.specs.Tokens.{TakesOn, is_letter as is_letter_byte, token_of};
 ghost use Rattle.std.specs.List.{prefix_len};
 
+use crate::names::Names;
 use crate::token::{Token, TokenKind};
 use crate::words::word_kind;
 use lisp_base::id::Place;
@@ -30,10 +32,17 @@ fn word_len(text: &[u8]) -> usize
 }
 
 /// Takes what begins at a place: its token, if it has one, goes behind the others. Gives the place after it.
-fn take_token(text: &[u8], at: usize, tokens: &mut Vec<Token>) -> Result<usize, Memory>
+fn take_token(
+    alloc: Global,
+    text: &[u8],
+    at: usize,
+    names: &mut Names,
+    tokens: &mut Vec<Token>,
+) -> Result<usize, Memory>
     requires inside { at < length text.now }
     requires short { length text.now < 2 ^ 32 }
-    ensures { IfOk result (λ next. TakesOn text.now at tokens.old.items next tokens.new.items) }
+    requires few { length names.old ≤ at }
+    ensures { IfOk result (λ next. TakesOn text.now at names.old tokens.old.items next names.new tokens.new.items) }
 {
     let place = Place(at as u32);
     let byte = text[at];
@@ -56,22 +65,22 @@ fn take_token(text: &[u8], at: usize, tokens: &mut Vec<Token>) -> Result<usize, 
     }
     let rest = &text[at..];
     let len = word_len(rest);
-    tokens.push(Token {
-        kind: word_kind(&rest[..len]),
-        place,
-    })?;
+    let kind = word_kind(alloc, &rest[..len], names)?;
+    tokens.push(Token { kind, place })?;
     Ok(at + len)
 }
 
-/// The tokens of a text, in order.
-pub fn tokens(alloc: Global, text: &[u8]) -> Result<Vec<Token>, Memory>
-    requires { length text.now < 2 ^ 32 }
-    ensures { IfOk result (λ tokens. tokens.items ≡ map token_of (pieces_from 0 text.now)) }
+/// The tokens of a text, in order. Its names go into a table that is empty before.
+pub fn tokens(alloc: Global, text: &[u8], names: &mut Names) -> Result<Vec<Token>, Memory>
+    requires short { length text.now < 2 ^ 32 }
+    requires empty { names.old ≡ [] }
+    ensures names { OnOk result (names.new ≡ names_after [] (pieces_from 0 text.now)) }
+    ensures tokens { IfOk result (λ tokens. tokens.items ≡ map (token_of names.new) (pieces_from 0 text.now)) }
 {
     let mut tokens = Vec::new(alloc);
     let mut at = 0;
     while at < text.len() {
-        at = take_token(text, at, &mut tokens)?;
+        at = take_token(alloc, text, at, names, &mut tokens)?;
     }
     Ok(tokens)
 }

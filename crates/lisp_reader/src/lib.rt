@@ -1,12 +1,16 @@
 //! Reads the text of a program.
 #![tactic(auto)]
 
-mod build;
+mod datum;
+mod expand;
 mod fault;
+mod items;
 mod lexer;
+mod names;
+mod numbering;
 pub mod reader;
 pub mod refusal;
-mod rules;
+mod scope;
 mod stack;
 #[cfg(test)]
 mod tests;

@@ -1,23 +1,37 @@
 ghost use Rattle.std.specs.Prelude.{◌≡◌, IfOk, IfErr};
 ghost use Rattle.lisp_program.specs.Forms.{forms_of, preorder};
-ghost use Rattle.lisp_reader.specs.Grammar.{Reads};
-ghost use Rattle.lisp_reader.specs.Reading.{IsRefusal, OneReading, OneRefusal, ReadOrRefused};
+ghost use Rattle.lisp_reader.specs.Reading.{IsRefusal, OneReading, OneRefusal, ReadOrRefused, Reads, program_with};
 
-use crate::build::{Built, build};
+use crate::datum::data;
+use crate::expand::expand;
 use crate::fault::first_fault;
+use crate::items::definitions;
 use crate::lexer::tokens;
-use crate::refusal::{NOT_BUILT, ReadRefusal, TOO_LONG};
-use lisp_base::id::Place;
+use crate::names::Names;
+use crate::numbering::{specials, symbols};
+use crate::refusal::{ReadRefusal, TOO_LONG};
+use lisp_base::id::{Place, SymbolId};
 use lisp_program::form::Program;
 use std::alloc::Global;
+use symbol_table::symbols::Symbols;
 
 /// A program has so many bytes at most.
 const LONGEST: usize = 1_048_576;
 
+/// A program that was read.
+#[derive(Debug, Drop)]
+pub struct Reading {
+    pub program: Program,
+    /// Its special variables, in order of definition.
+    pub specials: Vec<SymbolId>,
+    /// The names of its symbols.
+    pub symbols: Symbols,
+}
+
 /// Reads the text of a program. It errs where the text is none, and where memory runs out.
-pub fn read_forms(alloc: Global, text: &[u8]) -> Result<Program, ReadRefusal>
-    ensures read { IfOk result (λ program. Reads text.now (forms_of program)) }
-    ensures whole { IfOk result (λ program. preorder (forms_of program) ≡ program) }
+pub fn read_forms(alloc: Global, text: &[u8]) -> Result<Reading, ReadRefusal>
+    ensures read { IfOk result (λ reading. Reads text.now reading.symbols (program_with reading.program reading.specials.items)) }
+    ensures whole { IfOk result (λ reading. preorder (forms_of reading.program) ≡ reading.program) }
     ensures refused { IfErr result (IsRefusal text.now) }
 {
     if text.len() > LONGEST {
@@ -26,18 +40,19 @@ pub fn read_forms(alloc: Global, text: &[u8]) -> Result<Program, ReadRefusal>
             place: Place(LONGEST as u32),
         });
     }
-    let tokens = tokens(alloc, text)?;
+    let mut names = Names::new(alloc);
+    let tokens = tokens(alloc, text, &mut names)?;
     if let Some(fault) = first_fault(alloc, tokens.as_slice())? {
         return Err(fault.refusal());
     }
-    let Built { program, misplaced } = build(alloc, tokens.as_slice())?;
-    match misplaced {
-        None => Ok(program),
-        Some(place) => Err(ReadRefusal::Refused {
-            number: NOT_BUILT,
-            place,
-        }),
-    }
+    let nodes = data(alloc, tokens.as_slice())?;
+    let defined = definitions(alloc, nodes.as_slice())?;
+    let forms = expand(alloc, nodes.as_slice(), defined.as_slice())?;
+    Ok(Reading {
+        program: Program::of(forms),
+        specials: specials(alloc, defined.as_slice())?,
+        symbols: symbols(alloc, &names, defined.as_slice())?,
+    })
 }
 
 /// A text has at most one reading. There is nothing to run: the clause is the law, as in the two below.

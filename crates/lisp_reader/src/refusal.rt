@@ -16,6 +16,9 @@ pub const TOO_LONG: u32 = 7;
 /// A word is not known, a list is too deep, or something stands where it may not.
 pub const NOT_BUILT: u32 = 10;
 
+/// A name is defined nowhere in the program.
+pub const UNKNOWN_VARIABLE: u32 = 13;
+
 /// Why a program is not read.
 #[derive(Clone, Copy, Debug, PartialEq, Eq)]
 pub enum ReadRefusal {

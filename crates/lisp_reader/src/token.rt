@@ -1,12 +1,24 @@
 use lisp_base::id::Place;
+use lisp_base::value::Value;
+
+/// What a list may have in front.
+#[derive(Clone, Copy, Debug, PartialEq, Eq)]
+pub enum Operator {
+    Plus,
+    Print,
+    Progn,
+    Let,
+    Setq,
+    Defvar,
+}
 
 /// A word that a program may use.
 #[derive(Clone, Copy, Debug, PartialEq, Eq)]
 pub enum Word {
-    Number(u32),
-    Plus,
-    Print,
-    Progn,
+    Number(Value),
+    /// The name of a special variable, by its number among the names of the text.
+    Name(u32),
+    Operator(Operator),
 }
 
 /// What a token is.

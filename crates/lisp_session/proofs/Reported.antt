@@ -6,9 +6,7 @@ use Rattle.thread_semantics.specs.State.{FrameKind, BindFrame, Frame, ThreadStat
 use Rattle.run_semantics.specs.declared.report.FrameWord.TheVariants.{Bind}
 use Rattle.run_semantics.specs.declared.report.OpenForm.{OpenForm}
 use Rattle.run_semantics.specs.declared.report.PhaseReport.{PhaseReport}
-use Rattle.run_semantics.specs.declared.report.ThreadLine.{ThreadLine}
-use Rattle.run_semantics.specs.declared.report.Report.{Report}
-use Rattle.run_semantics.specs.Replay.{Configuration, all_closed, after_entries, first_configuration}
+use Rattle.run_semantics.specs.Replay.{Configuration, all_closed}
 use Rattle.run_semantics.specs.Report.{word_for, open_forms, phase_shown, thread_lines, status_of, report_of}
 use Rattle.run_semantics.specs.Run.{RunsAs}
 use Rattle.lisp_session.specs.declared.run.Run.{Run}

@@ -1,5 +1,5 @@
 -- The moves of the evaluator are those of the state that it shows.
-use Rattle.std.proofs.Common.{◌≡◌, ℕ, suc, ◌<◌, ◌^◌, List, [], ◌∷◌, ◌++◌, ◌&&◌, Bool, true, false, nat_lt, cond, Option, Some, None, Result, Ok, Err, length, map, drop, refl, ap, sym, ◌∙◌, append_assoc, ◌==◌, ◌≤◌, arith}
+use Rattle.std.proofs.Common.{◌≡◌, ℕ, suc, ◌^◌, List, [], ◌∷◌, ◌++◌, ◌&&◌, Bool, true, false, nat_lt, cond, Some, Result, Ok, Err, length, map, drop, refl, ap, sym, ◌∙◌, append_assoc, ◌==◌, arith}
 use Rattle.std.proofs.lemmas.List.{length-map}
 use Rattle.std.proofs.lemmas.Bool.Decides.{nat_tests}
 use Rattle.lisp_base.specs.declared.condition.Class.{Class}
@@ -11,7 +11,7 @@ use Rattle.lisp_program.specs.declared.act.Opening.{Opening}
 use Rattle.lisp_program.specs.declared.act.Opening.TheVariants.{Bind}
 use Rattle.lisp_program.specs.declared.act.Question.{Question}
 use Rattle.lisp_program.specs.declared.act.Question.TheVariants.{Print, Read, Write, Define, EndThread}
-use Rattle.lisp_program.specs.Points.{Points, Done, Do, Ask, Test, Enter, joined}
+use Rattle.lisp_program.specs.Points.{Points, Done, Do, Ask, Test, Enter}
 use Rattle.world_semantics.specs.declared.phase.Ending.{Ending}
 use Rattle.world_semantics.specs.declared.op.Op.TheVariants.{Get, Set}
 use Rattle.world_semantics.specs.declared.op.Reply.{Reply}

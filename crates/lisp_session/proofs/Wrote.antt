@@ -2,8 +2,7 @@
 use Rattle.std.proofs.Common.{◌≡◌, ℕ, ◌<◌, ◌≤◌, inl, inr, List, [], ◌∷◌, ◌++◌, Bool, true, false, Option, Some, None, ◌==◌, length, length-append, refl, ap, sym, subst, ◌∙◌, arith}
 use Rattle.std.specs.Io.KnownBytes.{Appends, Keeps}
 use Rattle.lisp_edge.specs.Faults.{Rose}
-use Rattle.lisp_reader.specs.Grammar.{longest, Reads}
-use Rattle.lisp_reader.specs.Reading.{IsRefused, too_long, in_reading, in_place, ReadOrRefused}
+use Rattle.lisp_reader.specs.Reading.{Reads, IsRefused, too_long, in_reading, in_place, ReadOrRefused, longest}
 use Rattle.lisp_journal.specs.Refusal.{words_line}
 use Rattle.lisp_session.specs.Headline.{are_accepted, IsWhole, IsRunText, IsRefusedText, IsAnswer, of_a_run, of_a_refusal, of_words, WroteFront, IsRunStatus, CausesRun, CausesRefusal, CausesRefusedWords}
 use Rattle.lisp_session.specs.Answer.{IsRead, IsRefusalLine, FailsWriting, WroteRun, WroteRefusal, IsTextFor, run_text, refusal_text, WroteSome, Wrote, EndsAs, number_of}
@@ -56,14 +55,14 @@ is_refused (Some all) None bytes number place r refused = absurd r
 is_refused (Some all) (Some rest) bytes number place r (too_long long n p) = too_long (longer bytes rest all r.0 long) n p
 is_refused (Some all) (Some rest) bytes number place r (in_reading fault short f n p) =
     subst (λ t. IsRefused t number place) (sym (r.0 ∙ ap (λ t. bytes ++ t) (r.1 short) ∙ append-nil bytes)) (in_reading fault short f n p)
-is_refused (Some all) (Some rest) bytes number place r (in_place data' short spelled f m n) =
-    subst (λ t. IsRefused t number place) (sym (r.0 ∙ ap (λ t. bytes ++ t) (r.1 short) ∙ append-nil bytes)) (in_place data' short spelled f m n)
+is_refused (Some all) (Some rest) bytes number place r (in_place data' holds found) =
+    subst (λ t. IsRefused t number place) (sym (r.0 ∙ ap (λ t. bytes ++ t) (r.1 holds.short) ∙ append-nil bytes)) (in_place data' holds found)
 
 -- how answering what was read ends
 pub ends : (left left' : Option (List ℕ)) (reads reads' : ℕ) (held held' : Option (List ℕ)) (writes writes' : ℕ) (bytes : List ℕ) (outcome : Outcome)
     → IsRead longest left left' bytes → Wrote bytes held held' writes writes' outcome → EndsAs true left left' reads reads' held held' writes writes' outcome
 ends left left' reads reads' held held' writes writes' bytes (Ran status) r w =
-    (refl, (record { bytes = bytes; source = is_whole left left' bytes r w.run.reads.short; text = w.text; run = w.run; sink = w.sink }), w.ended)
+    (refl, (record { bytes = bytes; source = is_whole left left' bytes r w.run.reads.holds.short; text = w.text; run = w.run; sink = w.sink }), w.ended)
 ends left left' reads reads' held held' writes writes' bytes RefusedWords r w = absurd w
 ends left left' reads reads' held held' writes writes' bytes Refused r w = (
   refl,
@@ -79,7 +78,7 @@ ends left left' reads reads' held held' writes writes' bytes WriteFault r w =
     (w.rose, (record { text = w.text; answer = answer_by w.text w.answer; count = w.count; sink = w.sink }))
   where
     answer_by : (text : List ℕ) → IsTextFor bytes text → IsAnswer true left left' text
-    answer_by text (run_text status run) = of_a_run bytes status refl (is_whole left left' bytes r run.reads.short) run
+    answer_by text (run_text status run) = of_a_run bytes status refl (is_whole left left' bytes r run.reads.holds.short) run
     answer_by text (refusal_text line) =
         subst (λ t. IsAnswer true left left' t) (sym line.line)
         (of_a_refusal line.number line.place refl (is_refused left left' bytes line.number line.place r line.refused))
@@ -102,13 +101,13 @@ both b t f = cc
 -- a program that the source tells is run where neither end fails
 pub completes : ReadOrRefused → (accepted : Bool) (left left' : Option (List ℕ)) (reads reads' : ℕ) (held held' : Option (List ℕ)) (writes writes' : ℕ) (outcome : Outcome)
     → EndsAs accepted left left' reads reads' held held' writes writes' outcome → CausesRun accepted left reads reads' writes writes' (number_of outcome)
-completes never accepted left left' reads reads' held held' writes writes' (Ran status) h = λ bytes forms a e read no_read no_write. inl h.2
-completes never accepted left left' reads reads' held held' writes writes' RefusedWords h = λ bytes forms a e read no_read no_write. absurd (both accepted a h.0)
-completes never accepted left left' reads reads' held held' writes writes' Refused h = λ bytes forms a e read no_read no_write.
-    let refused : IsRefusedText (Some bytes) h.1.number h.1.place = rw e at h.1.source in absurd (never bytes forms h.1.number h.1.place read refused)
-completes never accepted left left' reads reads' held held' writes writes' ReadFault h = λ bytes forms a e read no_read no_write. absurd (no_read h.1)
-completes never accepted left left' reads reads' held held' writes writes' WriteFault h = λ bytes forms a e read no_read no_write. absurd (no_write h.0)
-completes never accepted left left' reads reads' held held' writes writes' Memory h = λ bytes forms a e read no_read no_write. inr refl
+completes never accepted left left' reads reads' held held' writes writes' (Ran status) h = λ bytes symbols program a e read no_read no_write. inl h.2
+completes never accepted left left' reads reads' held held' writes writes' RefusedWords h = λ bytes symbols program a e read no_read no_write. absurd (both accepted a h.0)
+completes never accepted left left' reads reads' held held' writes writes' Refused h = λ bytes symbols program a e read no_read no_write.
+    let refused : IsRefusedText (Some bytes) h.1.number h.1.place = rw e at h.1.source in absurd (never bytes symbols program h.1.number h.1.place read refused)
+completes never accepted left left' reads reads' held held' writes writes' ReadFault h = λ bytes symbols program a e read no_read no_write. absurd (no_read h.1)
+completes never accepted left left' reads reads' held held' writes writes' WriteFault h = λ bytes symbols program a e read no_read no_write. absurd (no_write h.0)
+completes never accepted left left' reads reads' held held' writes writes' Memory h = λ bytes symbols program a e read no_read no_write. inr refl
 
 whole_told : (all bytes : List ℕ) (left' : Option (List ℕ)) → IsWhole (Some all) left' bytes → bytes ≡ all
 whole_told all bytes None h = absurd h
@@ -119,8 +118,8 @@ pub refuses : ReadOrRefused → (accepted : Bool) (left left' : Option (List ℕ
     → EndsAs accepted left left' reads reads' held held' writes writes' outcome → CausesRefusal accepted left reads reads' writes writes' (number_of outcome)
 refuses never accepted left left' reads reads' held held' writes writes' (Ran status) h = λ bytes number place a e refused no_read no_write.
     let whole : IsWhole (Some bytes) left' h.1.bytes = rw e at h.1.source in
-    let read : Reads bytes h.1.run.forms = subst (λ t. Reads t h.1.run.forms) (whole_told bytes h.1.bytes left' whole) h.1.run.reads in
-    absurd (never bytes h.1.run.forms number place read refused)
+    let read : Reads bytes h.1.run.symbols h.1.run.program = subst (λ t. Reads t h.1.run.symbols h.1.run.program) (whole_told bytes h.1.bytes left' whole) h.1.run.reads in
+    absurd (never bytes h.1.run.symbols h.1.run.program number place read refused)
 refuses never accepted left left' reads reads' held held' writes writes' RefusedWords h = λ bytes number place a e refused no_read no_write. absurd (both accepted a h.0)
 refuses never accepted left left' reads reads' held held' writes writes' Refused h = λ bytes number place a e refused no_read no_write. inl refl
 refuses never accepted left left' reads reads' held held' writes writes' ReadFault h = λ bytes number place a e refused no_read no_write. absurd (no_read h.1)

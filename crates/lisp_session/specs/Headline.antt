@@ -2,14 +2,12 @@
 use Rattle.std.specs.Prelude.{◌≡◌, ℕ, ◌⊎◌, List, [], ◌∷◌, ◌++◌, Bool, true, false, Option, Some, None, take}
 use Rattle.std.specs.Io.KnownBytes.{Appends}
 use Rattle.lisp_edge.specs.Faults.{Rose}
-use Rattle.lisp_program.specs.Forms.{Forms}
+use Rattle.lisp_program.specs.Program.{Program}
 use Rattle.world_semantics.specs.declared.entry.Entry.{Entry}
 use Rattle.run_semantics.specs.Replay.{Configuration, Replays}
 use Rattle.run_semantics.specs.Over.{IsOver}
 use Rattle.run_semantics.specs.Report.{report_of, status_of}
-use Rattle.lisp_reader.specs.Grammar.{Reads}
-use Rattle.lisp_reader.specs.Reading.{IsRefused}
-use Rattle.symbol_table.specs.Names.{first_symbols}
+use Rattle.lisp_reader.specs.Reading.{Reads, IsRefused}
 use Rattle.lisp_journal.specs.Journal.{journal_text}
 use Rattle.lisp_journal.specs.Report.{report_text}
 use Rattle.lisp_journal.specs.Refusal.{refusal_line, words_line}
@@ -30,17 +28,18 @@ IsWhole (Some all) None bytes = ⊥
 IsWhole (Some all) (Some rest) bytes = (bytes ≡ all) × (rest ≡ [])
 
 -- The bytes are an accepted program, and it has a run that is over, with this text and this status: a journal that
--- replays as a run of the interleaving semantics, and the report of its last state, in which no thread can step. No text
--- that is read yet names a special variable, or a symbol that is not there at first.
+-- replays as a run of the interleaving semantics, and the report of its last state, in which no thread can step. Both
+-- are written with the names of the program's symbols.
 -- The status is 0 exactly where every thread has ended there, else 3.
 pub record IsRunText (bytes text : List ℕ) (status : ℕ) : Type 0 where
-  pub forms : Forms
-  pub reads : Reads bytes forms
+  pub program : Program
+  pub symbols : List (List ℕ)
+  pub reads : Reads bytes symbols program
   pub journal : List Entry
   pub last : Configuration
-  pub replays : Replays steps (record { forms = forms; specials = [] }) journal last
+  pub replays : Replays steps program journal last
   pub over : IsOver steps last
-  pub written : text ≡ journal_text first_symbols journal ++ report_text first_symbols (report_of steps last)
+  pub written : text ≡ journal_text symbols journal ++ report_text symbols (report_of steps last)
   pub which : status ≡ status_of last.threads
 
 -- The headline: what the source had left was an accepted program, and the sink gained the whole text of a run of it.
@@ -90,8 +89,8 @@ IsStatus status = (status ≡ 0) ⊎ (status ≡ 3) ⊎ (status ≡ 2) ⊎ (stat
 -- Where the words are accepted, the source tells a program and neither end fails, the run ends, or memory runs out.
 abbrev pub CausesRun : Bool → Option (List ℕ) → ℕ → ℕ → ℕ → ℕ → ℕ → Type 0
 CausesRun accepted left reads reads' writes writes' status =
-    (bytes : List ℕ) (forms : Forms) → accepted ≡ true → left ≡ Some bytes → Reads bytes forms → ¬ Rose reads reads' → ¬ Rose writes writes'
-    → IsRunStatus status ⊎ (status ≡ 7)
+    (bytes : List ℕ) (symbols : List (List ℕ)) (program : Program) → accepted ≡ true → left ≡ Some bytes → Reads bytes symbols program
+    → ¬ Rose reads reads' → ¬ Rose writes writes' → IsRunStatus status ⊎ (status ≡ 7)
 
 -- Where the words are accepted, the source tells a text that is refused and neither end fails, that is said, or memory
 -- runs out.

@@ -1,7 +1,5 @@
 ghost use Rattle.std.specs.Prelude.{ℕ, List, IfOk};
-ghost use Rattle.lisp_program.specs.Forms.{forms_of};
-ghost use Rattle.lisp_reader.specs.Grammar.{Reads};
-ghost use Rattle.lisp_reader.specs.Reading.{IsRefusal};
+ghost use Rattle.lisp_reader.specs.Reading.{IsRefusal, Reads, program_with};
 ghost use Rattle.lisp_session.specs.Answer.{Answers};
 
 use crate::run::{Finished, run_program};
@@ -9,11 +7,9 @@ use lisp_base::memory::Memory;
 use lisp_journal::journal::write_journal;
 use lisp_journal::refusal::write_refusal;
 use lisp_journal::report::write_report;
-use lisp_program::form::Program;
-use lisp_reader::reader::read_forms;
+use lisp_reader::reader::{Reading, read_forms};
 use lisp_reader::refusal::ReadRefusal;
 use std::alloc::Global;
-use symbol_table::symbols::Symbols;
 
 /// The points that a thread may take.
 const STEPS: u32 = 100_000;
@@ -28,13 +24,12 @@ pub(crate) enum Answer {
 }
 
 /// Runs a program, and writes its journal and report.
-fn run_text(alloc: Global, program: &Program) -> Result<Answer, Memory>
-    ensures { IfOk result (λ answer. (bytes : List ℕ) → Reads bytes (forms_of program.now) → Answers bytes answer) }
+fn run_text(alloc: Global, reading: &Reading) -> Result<Answer, Memory>
+    ensures { IfOk result (λ answer. (bytes : List ℕ) → Reads bytes reading.now.symbols (program_with reading.now.program reading.now.specials.items) → Answers bytes answer) }
 {
-    let symbols = Symbols::new(alloc)?;
-    let finished = run_program(alloc, program, &[], STEPS)?;
-    let mut text = write_journal(alloc, &symbols, finished.entries.as_slice())?;
-    let report = write_report(alloc, &symbols, &finished.report)?;
+    let finished = run_program(alloc, &reading.program, reading.specials.as_slice(), STEPS)?;
+    let mut text = write_journal(alloc, &reading.symbols, finished.entries.as_slice())?;
+    let report = write_report(alloc, &reading.symbols, &finished.report)?;
     text.push_str(report.as_str())?;
     Ok(Answer::OfRun(text, finished.report.status))
 }
@@ -55,9 +50,9 @@ fn refusal_text(alloc: Global, refusal: &ReadRefusal) -> Result<Answer, Memory>
 pub(crate) fn answer_to(alloc: Global, bytes: &[u8]) -> Result<Answer, Memory>
     ensures { IfOk result (Answers bytes.now) }
 {
-    let reading = read_forms(alloc, bytes);
-    match &reading {
-        Ok(program) => Ok(run_text(alloc, program)?),
+    let read = read_forms(alloc, bytes);
+    match &read {
+        Ok(reading) => Ok(run_text(alloc, reading)?),
         Err(refusal) => Ok(refusal_text(alloc, refusal)?),
     }
 }

@@ -39,6 +39,94 @@ status 3
 end
 ";
 
+/// An assignment to a variable of an outer `let` is seen after the inner one, and not globally.
+const OUTER_SETQ: &[u8] = b"sbcl-journal 1
+1 t0 1 boundp *X* -> NIL
+2 t0 3 set *X* 0 -> ok
+3 t0 5 boundp *Y* -> NIL
+4 t0 7 set *Y* 0 -> ok
+5 t0 18 out \"\\n5 \" -> ok
+6 t0 21 get *X* -> 0
+7 t0 22 finish returned 0 -> ok
+report 1
+thread 0 \"main thread\" returned 0 points 22
+global *X* 0
+global *Y* 0
+status 0
+end
+";
+
+const SUM_PAST_RANGE: &[u8] = b"sbcl-journal 1
+1 t0 1 boundp *X* -> NIL
+2 t0 3 set *X* 999999999999999999 -> ok
+3 t0 5 get *X* -> 999999999999999999
+4 t0 6 get *X* -> 999999999999999999
+5 t0 15 finish aborted #<INTEGER-RANGE> -> ok
+report 1
+thread 0 \"main thread\" aborted #<INTEGER-RANGE> points 15
+global *X* 999999999999999999
+status 0
+end
+";
+
+/// A `defvar` gives the symbol, and `setq` outside of every `let` sets the global value.
+const GLOBAL_SETQ: &[u8] = b"sbcl-journal 1
+1 t0 1 boundp *AB* -> NIL
+2 t0 3 set *AB* 1 -> ok
+3 t0 6 set *AB* 2 -> ok
+4 t0 8 boundp *C* -> NIL
+5 t0 9 get *AB* -> 2
+6 t0 10 out \"\\n2 \" -> ok
+7 t0 11 set *C* 2 -> ok
+8 t0 12 finish returned *C* -> ok
+report 1
+thread 0 \"main thread\" returned *C* points 12
+global *AB* 2
+global *C* 2
+status 0
+end
+";
+
+/// The points end in a body, with the `let` open.
+const OUT_OF_POINTS_IN_A_LET: &[u8] = b"sbcl-journal 1
+1 t0 1 boundp *X* -> NIL
+2 t0 3 set *X* 0 -> ok
+report 1
+thread 0 \"main thread\" out-of-points points 100000
+  open bind 15
+global *X* 0
+status 3
+end
+";
+
+/// The points end between the two frames that an exit leaves, with the outer `let` open.
+const OUT_OF_POINTS_IN_AN_EXIT: &[u8] = b"sbcl-journal 1
+1 t0 1 boundp *X* -> NIL
+2 t0 3 set *X* 999999999999999999 -> ok
+3 t0 99989 get *X* -> 999999999999999999
+4 t0 99990 get *X* -> 999999999999999999
+report 1
+thread 0 \"main thread\" out-of-points points 100000
+  open bind 100016
+global *X* 999999999999999999
+status 3
+end
+";
+
+/// The exit with two points more: it ends the thread.
+const ENDS_AT_THE_LAST_POINT: &[u8] = b"sbcl-journal 1
+1 t0 1 boundp *X* -> NIL
+2 t0 3 set *X* 999999999999999999 -> ok
+3 t0 99987 get *X* -> 999999999999999999
+4 t0 99988 get *X* -> 999999999999999999
+5 t0 100000 finish aborted #<INTEGER-RANGE> -> ok
+report 1
+thread 0 \"main thread\" aborted #<INTEGER-RANGE> points 100000
+global *X* 999999999999999999
+status 0
+end
+";
+
 /// Runs a text over memory, where these calls of source and sink fail: the status, and what the sink holds then.
 fn run(alloc: Global, text: &[u8], reads: &[u32], writes: &[u32]) -> Result<(u8, Vec<u8>), Fail> {
     let mut source = MemorySource::new(
@@ -56,6 +144,18 @@ fn programs_run(rt: HostRuntime) -> Result<(), Fail> {
         (b"(print (+ 1 2))".as_slice(), PRINTED_SUM),
         (b"", EMPTY_PROGRAM),
         (b" \t\r\n\x0c", EMPTY_PROGRAM),
+        (
+            b"(defvar *x* 0) (defvar *y* 0) (let ((*x* 1)) (let ((*y* 2)) (setq *x* 5)) (print *x*)) *x*",
+            OUTER_SETQ,
+        ),
+        (
+            b"(defvar *x* 999999999999999999) (let ((*x* (+ *x* *x*))) (+ *x* (+ *x* *x*)))",
+            SUM_PAST_RANGE,
+        ),
+        (
+            b"(defvar *ab* 1) (setq *Ab* 2) (defvar *c* (print *AB*))",
+            GLOBAL_SETQ,
+        ),
     ] {
         let (status, held) = run(rt.alloc(), text, &[], &[])?;
         assert_eq!(rt; status, 0);
@@ -123,6 +223,8 @@ fn texts_are_refused(rt: HostRuntime) -> Result<(), Fail> {
         (b"(+ 1)", b"refused 10 NotBuilt at 0\n"),
         (b"1 )", b"refused 3 UnmatchedClose at 2\n"),
         (b"(print (+ 1", b"refused 2 EndInside at 7\n"),
+        (b"(print *x*)", b"refused 13 UnknownVariable at 7\n"),
+        (b"(print *x*) (defvar *x* 1)", b"refused 10 NotBuilt at 7\n"),
     ] {
         let (status, held) = run(alloc, text, &[], &[])?;
         assert_eq!(rt; status, 4);
@@ -171,6 +273,35 @@ fn limits_of_points(rt: HostRuntime) -> Result<(), Fail> {
     )?;
     assert_eq!(rt; status, 3);
     assert_eq!(rt; held.as_slice(), OUT_OF_POINTS);
+    Ok(())
+}
+
+#[test]
+fn points_end_in_a_let(rt: HostRuntime) -> Result<(), Fail> {
+    let alloc = rt.alloc();
+    let mut text = numbers(alloc, b"(defvar *x* 0) (let ((*x* 1))", 49_998)?;
+    text.push(b')')?;
+    let (status, held) = run(alloc, text.as_slice(), &[], &[])?;
+    assert_eq!(rt; status, 3);
+    assert_eq!(rt; held.as_slice(), OUT_OF_POINTS_IN_A_LET);
+    Ok(())
+}
+
+#[test]
+fn points_end_in_an_exit(rt: HostRuntime) -> Result<(), Fail> {
+    let alloc = rt.alloc();
+    for (count, expected, written) in [
+        (49_992, 3, OUT_OF_POINTS_IN_AN_EXIT),
+        (49_991, 0, ENDS_AT_THE_LAST_POINT),
+    ] {
+        let mut text = numbers(alloc, b"(defvar *x* 999999999999999999)", count)?;
+        text.extend_from_slice(
+            b" (let ((*x* (+ *x* *x*))) (let ((*x* (+ *x* *x*))) (+ *x* *x*)))",
+        )?;
+        let (status, held) = run(alloc, text.as_slice(), &[], &[])?;
+        assert_eq!(rt; status, expected);
+        assert_eq!(rt; held.as_slice(), written);
+    }
     Ok(())
 }
 

@@ -1,13 +1,16 @@
-use Rattle.std.proofs.Common.{◌≡◌, ◌-◌, ◌≤◌, ◌++◌, length, map, drop}
+use Rattle.std.proofs.Common.{◌≡◌, ◌-◌, ◌≤◌, ◌++◌, [], length, drop}
+use Rattle.lisp_reader.specs.Names.{names_after}
 use Rattle.lisp_reader.specs.Pieces.{pieces_from}
-use Rattle.lisp_reader.specs.Tokens.{token_of}
+use Rattle.lisp_reader.specs.Tokens.{tokens_from}
 use Rattle.lisp_reader.proofs.lexer.tokens.Given as goal
 
 abbrev pub invariant-loop-at : goal.invariant-loop-at
 invariant-loop-at l =
     record {
       inside : l.at ≤ length l.text;
-      same : l.tokens.items ++ map token_of (pieces_from l.at (drop l.at l.text)) ≡ map token_of (pieces_from 0 l.text);
+      few : length l.names ≤ l.at;
+      same : l.tokens.items ++ tokens_from l.names (pieces_from l.at (drop l.at l.text)) ≡ tokens_from [] (pieces_from 0 l.text);
+      names : names_after l.names (pieces_from l.at (drop l.at l.text)) ≡ names_after [] (pieces_from 0 l.text);
     }
 
 abbrev pub decreases-loop-at : goal.decreases-loop-at

@@ -1,7 +1,7 @@
 use Rattle.std.proofs.Common.{◌≡◌, ◌<◌, true, get_or, arith, sym, ◌∙◌}
 use Rattle.std.proofs.lemmas.Bool.Decides.{nat_tests}
 use Rattle.std.specs.Char.{is_ascii_digit}
-use Rattle.lisp_reader.proofs.Numbers.{digit_fits, digit_small, digit_passes, digit_counts}
+use Rattle.lisp_reader.proofs.Numbers.{digit_fits, digit_small, digit_passes, digit_counts, number_small}
 use Rattle.lisp_reader.proofs.words.number_of.Goals as goal
 
 pub overflow_mul-value : goal.overflow_mul-value
@@ -22,3 +22,6 @@ loop-letter-preserved c =
       value = rw c.from.ensures (digit_counts _ _ _ c.loop-letter-test.true c.loop-letter.invariant.value digit);
       small = digit_small _ _ _ c.loop-letter.invariant.small below;
     }
+
+pub returns-clause-small : goal.returns-clause-small
+returns-clause-small c = number_small _ c.loop-letter.letter-index c.loop-letter.invariant.small (omega arith)

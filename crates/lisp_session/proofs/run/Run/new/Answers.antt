@@ -1,4 +1,4 @@
-use Rattle.std.proofs.Common.{refl, ◌∙◌}
+use Rattle.std.proofs.Common.{refl}
 use Rattle.lisp_session.proofs.Turned.{begun}
 use Rattle.lisp_session.proofs.run.Run.new.Goals as goal
 

@@ -1,0 +1,3 @@
+(defvar *count* 1)
+(setq *count* (+ *count* 1))
+(print *count*)
