@@ -4,5 +4,3 @@
 pub mod flatten;
 mod own_steps;
 pub mod steps;
-#[cfg(test)]
-mod tests;

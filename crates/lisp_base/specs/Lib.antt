@@ -1,2 +1,5 @@
 pub mod Value
 pub mod Forest
+pub mod Classes
+pub mod Timers
+pub mod Limits

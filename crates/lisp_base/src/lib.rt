@@ -1,8 +1,9 @@
-//! The words that all crates share: values, names of objects, conditions and actors.
+//! The words that all crates share: values, names of objects, conditions, actors and limits.
 #![tactic(auto)]
 
 pub mod condition;
 pub mod id;
+pub mod limits;
 pub mod memory;
 pub mod sequence;
 pub mod value;

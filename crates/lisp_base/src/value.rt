@@ -1,7 +1,8 @@
-ghost use Rattle.std.specs.Prelude.{◌≡◌, ◌↔◌, ℕ, true, false, Bool, IsTrue, IsSome, IfSome};
-ghost use Rattle.lisp_base.specs.Value.{is_in_range};
+ghost use Rattle.std.specs.Prelude.{◌≡◌, ◌↔◌, ℕ, true, false, Bool, IsTrue, IsSome, IsNone, IfSome};
+ghost use Rattle.lisp_base.specs.Value.{is_in_range, is_untold};
 
-use crate::id::SymbolId;
+use crate::condition::Condition;
+use crate::id::{Micros, MutexId, QueueId, StringId, SymbolId, ThreadId, TimerId};
 use std::marker::Model;
 
 /// What a value is made of.
@@ -9,6 +10,16 @@ use std::marker::Model;
 pub enum Node {
     Int(i64),
     Symbol(SymbolId),
+    /// A string.
+    Text(StringId),
+    Time(Micros),
+    /// A condition.
+    Cond(Condition),
+    Thread(ThreadId),
+    Mutex(MutexId),
+    /// A waitqueue.
+    Queue(QueueId),
+    Timer(TimerId),
 }
 
 /// A value: a node in range. It has no parts, and is copied wherever it goes.
@@ -35,6 +46,9 @@ impl Model for Value {
 /// The greatest integer; the least is one further below zero.
 const GREATEST: i64 = (1 << 62) - 1;
 
+/// Times are below this number of microseconds: the greatest reading of a clock, and the longest wait after it.
+const TIMES: u64 = (1 << 62) + (1 << 52);
+
 impl Value {
     /// The value of a node: `None` exactly where the node is not in range.
     pub fn of(node: Node) -> Option<Value>
@@ -48,7 +62,13 @@ impl Value {
                 }
                 Some(Value { node })
             }
-            Node::Symbol(_) => Some(Value { node }),
+            Node::Time(time) => {
+                if time.0 >= TIMES {
+                    return None;
+                }
+                Some(Value { node })
+            }
+            _ => Some(Value { node }),
         }
     }
 
@@ -75,6 +95,17 @@ impl Value {
     {
         Value {
             node: Node::Symbol(SymbolId::nil()),
+        }
+    }
+
+    /// Whether two values are the same: `None` exactly where both are strings or both are conditions, of which no program is told.
+    pub fn eq(&self, other: &Value) -> Option<bool>
+        ensures untold { IsNone result ↔ IsTrue (is_untold self.now other.now) }
+        ensures told { IfSome result (λ same. IsTrue same ↔ (self.now ≡ other.now)) }
+    {
+        match (self.node, other.node) {
+            (Node::Text(_), Node::Text(_)) | (Node::Cond(_), Node::Cond(_)) => None,
+            (node, with) => Some(node == with),
         }
     }
 }

@@ -12,7 +12,5 @@ pub mod reader;
 pub mod refusal;
 mod scope;
 mod stack;
-#[cfg(test)]
-mod tests;
 pub mod token;
 mod words;

@@ -1,9 +1,3 @@
-pub mod Advances
-pub mod Bound
-pub mod Shown
-pub mod Variables
-pub mod Turned
-pub mod Reported
 pub mod Answered
 pub mod Ends
 pub mod Wrote

@@ -1,7 +1,2 @@
-pub mod Lists
-pub mod Evaluator
-pub mod Moves
-pub mod Globals
-pub mod Running
 pub mod Headline
 pub mod Answer

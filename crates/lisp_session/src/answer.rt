@@ -2,7 +2,7 @@ ghost use Rattle.std.specs.Prelude.{ℕ, List, IfOk};
 ghost use Rattle.lisp_reader.specs.Reading.{IsRefusal, Reads, program_with};
 ghost use Rattle.lisp_session.specs.Answer.{Answers};
 
-use crate::run::{Finished, run_program};
+use form_evaluator::run::{Finished, run_program};
 use lisp_base::memory::Memory;
 use lisp_journal::journal::write_journal;
 use lisp_journal::refusal::write_refusal;

@@ -1,6 +1,6 @@
 -- Worked programs with their journals and reports.
-use Rattle.std.specs.Prelude.{ℕ, pos, List, [], ◌∷◌, ◌++◌, Some, false}
-use Rattle.lisp_base.specs.Forest.{Forest, NoTrees, Tree}
+use Rattle.std.specs.Prelude.{ℕ, pos, List, [], ◌∷◌, Some, None, false}
+use Rattle.lisp_base.specs.Forest.{NoTrees, Tree}
 use Rattle.lisp_base.specs.declared.condition.Class.TheVariants.{IntegerRange}
 use Rattle.lisp_base.specs.declared.id.Actor.TheVariants.{Thread}
 use Rattle.lisp_base.specs.declared.value.Node.{Node}
@@ -120,7 +120,7 @@ sum_past_range_journal =
     ∷ main_does 2 3 (Set 5 (Int (pos 999999999999999999))) Okay
     ∷ main_does 3 5 (Get 5) (Value (Int (pos 999999999999999999)))
     ∷ main_does 4 6 (Get 5) (Value (Int (pos 999999999999999999)))
-    ∷ main_does 5 15 (Finish (Aborted (Some (record { class = IntegerRange })))) Okay
+    ∷ main_does 5 15 (Finish (Aborted (Some (record { class = IntegerRange; text = None })))) Okay
     ∷ []
 
 -- the entries before main is aborted

@@ -1,4 +1,4 @@
-ghost use Rattle.std.specs.Prelude.{pos, [], ◌∷◌, Some};
+ghost use Rattle.std.specs.Prelude.{pos, [], ◌∷◌, Some, None};
 ghost use Rattle.lisp_base.specs.declared.condition.Class.TheVariants.{IntegerRange};
 ghost use Rattle.lisp_base.specs.declared.value.Node.TheVariants.{Int};
 ghost use Rattle.lisp_program.specs.Points.{nil};
@@ -23,7 +23,7 @@ pub fn outer_setq_survives()
 
 /// A sum past the range leaves its `let`, one frame a point, and aborts the thread.
 pub fn a_sum_past_the_range()
-    ensures { RunsAs 100000 sum_past_range sum_past_range_journal (main_ended 15 (Aborted (Some (record { class = IntegerRange }))) (has_value 5 (Int (pos 999999999999999999)) ∷ [])) }
+    ensures { RunsAs 100000 sum_past_range sum_past_range_journal (main_ended 15 (Aborted (Some (record { class = IntegerRange; text = None }))) (has_value 5 (Int (pos 999999999999999999)) ∷ [])) }
 {}
 
 /// Where the points run out inside a `let`, the report has it open.

@@ -4,8 +4,6 @@
 pub mod error;
 pub mod symbols;
 mod table;
-#[cfg(test)]
-mod tests;
 pub mod texts;
 
 /// How many symbols there may be, and how many string literals.

@@ -4,7 +4,7 @@ use Rattle.lisp_base.specs.Value.{is_integer}
 use Rattle.lisp_base.specs.declared.condition.Class.{Class}
 use Rattle.lisp_base.specs.declared.condition.Class.TheVariants.{TypeError, IntegerRange}
 use Rattle.lisp_base.specs.declared.value.Node.{Node}
-use Rattle.lisp_base.specs.declared.value.Node.TheVariants.{Int, Symbol}
+use Rattle.lisp_base.specs.declared.value.Node.TheVariants.{Int}
 use Rattle.lisp_program.specs.declared.act.Act.{Act}
 use Rattle.lisp_program.specs.declared.act.Act.TheVariants.{Push, Discard, Add}
 use Rattle.lisp_program.specs.Points.{nil}
@@ -17,7 +17,7 @@ top (v ∷ vs) = v
 -- the number of an integer
 abbrev pub integer_of : Node → Option ℤ
 integer_of (Int z) = Some z
-integer_of (Symbol s) = None
+integer_of _ = None
 
 -- an integer in range, else `integer-range` is signalled
 abbrev pub within_range : ℤ → Result Node Class

@@ -1,5 +1,5 @@
 -- What a thread does next, and the state that this leaves.
-use Rattle.std.specs.Prelude.{ℕ, zero, suc, ◌+◌, ◌-◌, List, [], ◌∷◌, Option, Some, None, Result, Ok, Err, Bool, true, false, ◌&&◌, nat_lt, if◌then◌else◌, unwrap_or, slice_get, length, take, drop}
+use Rattle.std.specs.Prelude.{ℕ, zero, suc, ◌+◌, ◌-◌, List, [], ◌∷◌, Option, Some, None, Result, Ok, Err, Bool, true, false, ◌&&◌, nat_lt, unwrap_or, slice_get, length, take, drop}
 use Rattle.lisp_base.specs.declared.condition.Class.{Class}
 use Rattle.lisp_base.specs.declared.condition.Class.TheVariants.{UnboundVariable, StorageCondition}
 use Rattle.lisp_base.specs.declared.condition.Condition.{Condition}
@@ -20,7 +20,7 @@ use Rattle.world_semantics.specs.declared.phase.Ending.TheVariants.{Returned, Ab
 use Rattle.thread_semantics.specs.declared.next.Next.{Next}
 use Rattle.thread_semantics.specs.declared.next.Next.TheVariants.{Local, Operation, Nothing}
 use Rattle.thread_semantics.specs.Acts.{top, result_of}
-use Rattle.thread_semantics.specs.State.{FrameKind, BindFrame, Frame, Target, Base, Control, At, Exit, Ended, Environment, ThreadState}
+use Rattle.thread_semantics.specs.State.{FrameKind, BindFrame, Frame, Target, Base, Control, At, Exit, Ended, ThreadState}
 
 -- A condition that is signalled goes to the first handler in force for it. No form has a handler yet, so the thread
 -- leaves to its base, and is aborted with the condition.
@@ -30,7 +30,7 @@ signal condition s = record s { control = Exit (Base (Aborted (Some condition)))
 -- a thread goes on after an act with the new values, or the act signals
 abbrev pub acted : Result (List Node) Class → Points → ThreadState → ThreadState
 acted (Ok vs) after s = record s { control = At after vs }
-acted (Err class) after s = signal (record { class = class }) s
+acted (Err class) after s = signal (record { class = class; text = None }) s
 
 -- A special variable that is bound in this thread is read and written there, at a local point. The other questions are
 -- operations always.
@@ -63,7 +63,7 @@ opened (Bind symbol above) place body after vs s =
 -- without room nothing is opened, and `storage-condition` is signalled
 abbrev pub enter_step : Bool → Opening → ℕ → Points → Points → List Node → ThreadState → ThreadState
 enter_step true opening place body after vs s = opened opening place body after vs s
-enter_step false opening place body after vs s = signal (record { class = StorageCondition }) s
+enter_step false opening place body after vs s = signal (record { class = StorageCondition; text = None }) s
 
 -- a frame that is popped puts back what it holds
 abbrev pub put_back : FrameKind → ThreadState → ThreadState
@@ -138,7 +138,7 @@ next_of s = next_by s.control s.frames s.environment.bindings
 -- a global value that was read goes in front; without one `unbound-variable` is signalled
 abbrev pub read_reply : Reply → Points → List Node → ThreadState → ThreadState
 read_reply (Value v) after vs s = record s { control = At after (v ∷ vs) }
-read_reply Unbound after vs s = signal (record { class = UnboundVariable }) s
+read_reply Unbound after vs s = signal (record { class = UnboundVariable; text = None }) s
 read_reply Okay after vs s = s
 read_reply (Truth b) after vs s = s
 

@@ -1,0 +1,6 @@
+pub mod Advances
+pub mod Bound
+pub mod Shown
+pub mod Variables
+pub mod Turned
+pub mod Reported

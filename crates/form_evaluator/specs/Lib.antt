@@ -1,0 +1,5 @@
+pub mod Lists
+pub mod Evaluator
+pub mod Moves
+pub mod Globals
+pub mod Running

@@ -1,0 +1,11 @@
+//! Tests of public calls of the crates below. They stand apart so that those crates are checked once, and not again with their tests.
+#![tactic(auto)]
+
+#[cfg(test)]
+mod bindings;
+#[cfg(test)]
+mod names;
+#[cfg(test)]
+mod reading;
+#[cfg(test)]
+mod steps;

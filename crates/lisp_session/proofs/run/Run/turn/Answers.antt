@@ -1,5 +1,0 @@
-use Rattle.lisp_session.proofs.Turned.{nothing_left}
-use Rattle.lisp_session.proofs.run.Run.turn.Goals as goal
-
-pub returns-in-Nothing : goal.returns-in-Nothing
-returns-in-Nothing c = λ limit f taken r h. nothing_left limit taken f _ r c.in-Nothing.ensures

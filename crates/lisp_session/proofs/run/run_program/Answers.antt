@@ -1,4 +1,0 @@
-use Rattle.lisp_session.proofs.run.run_program.Goals as goal
-
-pub go-requires : goal.go-requires
-go-requires c = (_, c.in_ok-run.ensures c.args.limit)

@@ -1,6 +1,0 @@
-use Rattle.std.proofs.Common.{◌≡◌, ◌++◌, drop}
-use Rattle.world_semantics.specs.World.{unbound_all}
-use Rattle.lisp_session.proofs.run.unbound_globals.Given as goal
-
-abbrev pub invariant-loop-at : goal.invariant-loop-at
-invariant-loop-at l = l.globals ++ unbound_all (drop l.at l.specials) ≡ unbound_all l.specials
