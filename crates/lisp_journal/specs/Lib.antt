@@ -1,4 +1,4 @@
-pub mod Printing
+pub mod Line
 pub mod Journal
 pub mod Report
 pub mod Refusal

@@ -2,6 +2,7 @@
 use Rattle.std.specs.Prelude.{ℕ, suc, List, [], ◌∷◌, ◌++◌, if◌then◌else◌, ◌==◌, Option, Some, None, codes}
 use Rattle.std.specs.Fmt.{decimal}
 use Rattle.lisp_base.specs.declared.value.Node.{Node}
+use Rattle.lisp_base.specs.declared.value.Node.TheVariants.{Symbol}
 use Rattle.world_semantics.specs.declared.phase.Phase.{Phase}
 use Rattle.world_semantics.specs.declared.phase.Phase.TheVariants.{Alive, Ended}
 use Rattle.run_semantics.specs.declared.report.PhaseReport.{PhaseReport}
@@ -13,23 +14,23 @@ use Rattle.world_semantics.specs.declared.global.Global.{Global}
 use Rattle.run_semantics.specs.declared.report.FrameWord.{FrameWord}
 use Rattle.run_semantics.specs.declared.report.FrameWord.TheVariants.{Bind}
 use Rattle.run_semantics.specs.declared.report.OpenForm.{OpenForm}
-use Rattle.lisp_journal.specs.Printing.{symbol_text, value_text}
+use Rattle.lisp_journal.specs.Line.{value_text}
 use Rattle.lisp_journal.specs.Journal.{ending_text}
 
 -- the name of a thread; that of main is written so, though it is kept as NIL
-abbrev pub name_text : List (List ℕ) → ℕ → Node → List ℕ
-name_text names number name = if number == 0 then codes "\"main thread\"" else value_text names name
+abbrev pub name_text : (symbols literals : List (List ℕ)) → ℕ → Node → List ℕ
+name_text symbols literals number name = if number == 0 then codes "\"main thread\"" else value_text symbols literals name
 
 -- how a thread ended, or that it has not
-abbrev pub phase_text : List (List ℕ) → Phase → List ℕ
-phase_text names Alive = codes "alive"
-phase_text names (Ended ending) = ending_text names ending
+abbrev pub phase_text : (symbols literals : List (List ℕ)) → Phase → List ℕ
+phase_text symbols literals Alive = codes "alive"
+phase_text symbols literals (Ended ending) = ending_text symbols literals ending
 
 -- Where a thread stands. In a report of a run that is over no thread can go on, so the last line is never written.
-abbrev pub standing_text : List (List ℕ) → PhaseReport → Phase → List ℕ
-standing_text names IsEnded phase = phase_text names phase
-standing_text names OutOfPoints phase = codes "out-of-points"
-standing_text names Runnable phase = codes "runnable"
+abbrev pub standing_text : (symbols literals : List (List ℕ)) → PhaseReport → Phase → List ℕ
+standing_text symbols literals IsEnded phase = phase_text symbols literals phase
+standing_text symbols literals OutOfPoints phase = codes "out-of-points"
+standing_text symbols literals Runnable phase = codes "runnable"
 
 -- the word for a kind of open form
 abbrev pub frame_word : FrameWord → List ℕ
@@ -40,28 +41,28 @@ abbrev pub open_text : OpenForm → List ℕ
 open_text f = codes "  open " ++ frame_word f.kind ++ codes " " ++ decimal f.place ++ codes "\n"
 
 -- the line of a thread
-abbrev pub line_text : List (List ℕ) → ℕ → ThreadLine → List ℕ
-line_text names number line =
-    codes "thread " ++ decimal number ++ codes " " ++ name_text names number line.name ++ codes " " ++ standing_text names line.machine.phase line.phase ++ codes " points " ++ decimal line.machine.points ++ codes "\n"
+abbrev pub line_text : (symbols literals : List (List ℕ)) → ℕ → ThreadLine → List ℕ
+line_text symbols literals number line =
+    codes "thread " ++ decimal number ++ codes " " ++ name_text symbols literals number line.name ++ codes " " ++ standing_text symbols literals line.machine.phase line.phase ++ codes " points " ++ decimal line.machine.points ++ codes "\n"
 
 -- the line of a thread, and those of its open forms, innermost first
-abbrev pub thread_text : List (List ℕ) → ℕ → ThreadLine → List ℕ
-thread_text names number line = line_text names number line ++ flat_map open_text line.machine.frames
+abbrev pub thread_text : (symbols literals : List (List ℕ)) → ℕ → ThreadLine → List ℕ
+thread_text symbols literals number line = line_text symbols literals number line ++ flat_map open_text line.machine.frames
 
 -- the lines of threads that are numbered from here on
-abbrev pub thread_texts : List (List ℕ) → ℕ → List ThreadLine → List ℕ
-thread_texts names number [] = []
-thread_texts names number (line ∷ lines) = thread_text names number line ++ thread_texts names (suc number) lines
+abbrev pub thread_texts : (symbols literals : List (List ℕ)) → ℕ → List ThreadLine → List ℕ
+thread_texts symbols literals number [] = []
+thread_texts symbols literals number (line ∷ lines) = thread_text symbols literals number line ++ thread_texts symbols literals (suc number) lines
 
 -- the global value of a special variable, where it has one
-abbrev pub held_text : List (List ℕ) → Option Node → List ℕ
-held_text names None = codes "unbound"
-held_text names (Some v) = value_text names v
+abbrev pub held_text : (symbols literals : List (List ℕ)) → Option Node → List ℕ
+held_text symbols literals None = codes "unbound"
+held_text symbols literals (Some v) = value_text symbols literals v
 
 -- the line of a special variable
-abbrev pub global_text : List (List ℕ) → Global → List ℕ
-global_text names g = codes "global " ++ symbol_text names g.symbol ++ codes " " ++ held_text names g.value ++ codes "\n"
+abbrev pub global_text : (symbols literals : List (List ℕ)) → Global → List ℕ
+global_text symbols literals g = codes "global " ++ value_text symbols literals (Symbol g.symbol) ++ codes " " ++ held_text symbols literals g.value ++ codes "\n"
 
 -- the report: its first line, the lines of each thread, a line for each special variable, the status, and its last line
-abbrev pub report_text : List (List ℕ) → Report → List ℕ
-report_text names r = codes "report 1\n" ++ thread_texts names 0 r.threads ++ flat_map (global_text names) r.globals ++ codes "status " ++ decimal r.status ++ codes "\nend\n"
+abbrev pub report_text : (symbols literals : List (List ℕ)) → Report → List ℕ
+report_text symbols literals r = codes "report 1\n" ++ thread_texts symbols literals 0 r.threads ++ flat_map (global_text symbols literals) r.globals ++ codes "status " ++ decimal r.status ++ codes "\nend\n"

@@ -2,6 +2,7 @@
 #![tactic(auto)]
 
 pub mod journal;
-mod printing;
+mod line;
+pub mod names;
 pub mod refusal;
 pub mod report;

@@ -2,7 +2,7 @@ ghost use Rattle.std.specs.Prelude.{◌≡◌, IfOk};
 ghost use Rattle.std.specs.String.{string_bytes};
 ghost use Rattle.lisp_journal.specs.Refusal.{refusal_line, refusal_name, words_line};
 
-use crate::journal::push_decimal;
+use crate::line::push_decimal;
 use lisp_base::id::Place;
 use lisp_base::memory::Memory;
 use std::alloc::Global;
@@ -19,11 +19,21 @@ fn name_of(number: u32) -> &'static str
     ensures { result.now ≡ refusal_name number }
 {
     match number {
+        1 => "NotUtf8",
         2 => "EndInside",
         3 => "UnmatchedClose",
+        4 => "BadToken",
+        5 => "NumberTooLarge",
+        6 => "TooDeep",
         7 => "TooLong",
+        8 => "TooManySymbols",
+        9 => "TooManyTexts",
         10 => "NotBuilt",
+        11 => "UnknownOperator",
+        12 => "BadForm",
         13 => "UnknownVariable",
+        17 => "TooMany",
+        18 => "DefinedTwice",
         _ => "?",
     }
 }

@@ -1,107 +1,118 @@
--- What the tokens of data build.
-use Rattle.std.proofs.Common.{◌≡◌, ℕ, suc, ◌+◌, ◌≤◌, List, [], ◌∷◌, ◌++◌, length, map, Option, Some, None, refl, ap, sym, ◌∙◌, arith, add-one, append_assoc, append-nil}
-use Rattle.std.specs.Prelude.{sum_by}
+-- The marks of items build the nodes of their data.
+use Rattle.std.proofs.Common.{◌≡◌, ℕ, suc, ◌+◌, ◌≤◌, List, [], ◌∷◌, ◌++◌, length, map, refl, ap, sym, ◌∙◌, arith, add-one, append_assoc, append-nil, sum_by}
 use Rattle.std.proofs.lemmas.List.Sums.{sum_by-cons}
-use Rattle.lisp_reader.specs.Build.{built, moved, or_none, total}
-use Rattle.lisp_reader.specs.Datums.{word_datum, written}
-use Rattle.lisp_reader.specs.Grammar.{Data, NoData, Word', Nested, spelling, datums_in, items_of}
-use Rattle.lisp_reader.specs.Names.{word_in}
-use Rattle.lisp_reader.specs.Pieces.{Piece, Closing}
-use Rattle.lisp_reader.specs.Stack.{top_of, below}
-use Rattle.lisp_reader.specs.Tokens.{token_of, kind_of}
-use Rattle.lisp_reader.specs.declared.datum.Builder.{Builder}
+use Rattle.lisp_reader.specs.declared.build.Builder.{Builder}
 use Rattle.lisp_reader.specs.declared.datum.DatumNode.{DatumNode}
-use Rattle.lisp_reader.specs.declared.token.Token.{Token}
-use Rattle.lisp_reader.specs.declared.token.TokenKind.{TokenKind}
-use Rattle.lisp_reader.specs.declared.token.TokenKind.TheVariants.{Open, Close, Known, Unknown}
-use Rattle.lisp_reader.specs.declared.token.Word.{Word}
+use Rattle.lisp_reader.specs.declared.datum.Leaf.{Leaf}
+use Rattle.lisp_reader.specs.declared.datum.Leaf.TheVariants.{Symbol as SymbolLeaf, Text as TextLeaf}
+use Rattle.lisp_reader.specs.declared.gather.Mark.{Mark}
+use Rattle.lisp_reader.specs.declared.gather.MarkKind.{MarkKind}
+use Rattle.lisp_reader.specs.declared.gather.MarkKind.TheVariants.{Open, Close, Quote, ALeaf}
+use Rattle.lisp_reader.specs.Build.{built, moved, opened, or_none, quoted, total, with_item}
+use Rattle.lisp_reader.specs.Data.{Data, NoData, Atom, Listed, count_of, leaf_kind, written}
+use Rattle.lisp_reader.specs.Gathering.{quote_name}
+use Rattle.lisp_reader.specs.Grammar.{Item, ItemAnd, Items, ListItem, LiteralItem, NoItems, QuoteItem, TokenItem, data_in, datum_in, leaf_of, spelled, spelled_item}
+use Rattle.lisp_reader.specs.Marking.{mark_of}
+use Rattle.lisp_reader.specs.Meanings.{meaning_in}
+use Rattle.lisp_reader.specs.Parts.{Part, Closes}
+use Rattle.lisp_reader.specs.Stack.{below, top_of}
+use Rattle.lisp_reader.specs.Tables.{Tables, number_in}
 
--- data in front of data
-abbrev pub before : Data → Data → Data
-before NoData e = e
-before (Word' p letters d) e = Word' p letters (before d e)
-before (Nested p q u d) e = Nested p q u (before d e)
+-- what is written for data, each in front of the next
+abbrev all_written : List Data → List DatumNode
+all_written [] = []
+all_written (e ∷ es) = written e ++ all_written es
 
--- nothing behind it
-before_none : (d : Data) → before d NoData ≡ d
-before_none NoData = refl
-before_none (Word' p letters d) = ap (Word' p letters) (before_none d)
-before_none (Nested p q u d) = ap (Nested p q u) (before_none d)
+-- a builder that shows the data of the innermost list, and those of the lists around it
+abbrev shown : Data → List Data → Builder
+shown d es = record { items = count_of d; outer = map count_of es; nodes = written d ++ all_written es }
 
--- the nodes of the lists around
-abbrev pub nodes_of : List (List ℕ) → List Data → List DatumNode
-nodes_of names [] = []
-nodes_of names (e ∷ es) = written (datums_in names e) ++ nodes_of names es
+-- a leaf in front
+atom_shows : (leaf : Leaf) (p : ℕ) (d : Data) (es : List Data) → with_item (leaf_kind leaf) p (shown d es) ≡ shown (Atom leaf p d) es
+atom_shows leaf p d es =
+    ap (λ n. record { items = n; outer = map count_of es; nodes = written (Atom leaf p d) ++ all_written es }) (add-one (count_of d))
 
--- the builder that shows data, in the lists around it
-abbrev pub shown : List (List ℕ) → Data → List Data → Builder
-shown names d es =
-    record {
-      items = items_of d;
-      outer = map items_of es;
-      nodes = written (datums_in names d) ++ nodes_of names es;
-    }
+-- a list in front
+list_shows : (p : ℕ) (under d : Data) (es : List Data) → opened p (shown under (d ∷ es)) ≡ shown (Listed p under d) es
+list_shows p under d es = rw (append_assoc (written under) (written d) (all_written es), add-one (count_of d)) refl
 
--- one more word
-word_shows_by : (names : List (List ℕ)) (p : ℕ) (w : Option Word) (d : Data) (es : List Data)
-    → moved (kind_of w) p (shown names d es)
-    ≡ record {
-      items = suc (items_of d);
-      outer = map items_of es;
-      nodes = (record { kind = word_datum w; place = p }) ∷ (written (datums_in names d) ++ nodes_of names es);
-    }
-word_shows_by names p None d es = rw (add-one (items_of d)) refl
-word_shows_by names p (Some w) d es = rw (add-one (items_of d)) refl
+-- an item is one datum
+one_datum : (t : Tables) (i : Item) (d : Data) → count_of (datum_in t i d) ≡ suc (count_of d)
+one_datum t (TokenItem p letters) d = refl
+one_datum t (LiteralItem p characters) d = refl
+one_datum t (ListItem p q under) d = refl
+one_datum t (QuoteItem function p i) d = refl
 
--- a word with these letters
-word_shows : (names : List (List ℕ)) (p : ℕ) (letters : List ℕ) (d : Data) (es : List Data)
-    → moved (kind_of (word_in names letters)) p (shown names d es) ≡ shown names (Word' p letters d) es
-word_shows names p letters d es = word_shows_by names p (word_in names letters) d es
+-- its nodes stand in front of the others
+datum_written : (t : Tables) (i : Item) (d : Data) → written (datum_in t i d) ≡ written (datum_in t i NoData) ++ written d
+datum_written t (TokenItem p letters) d = refl
+datum_written t (LiteralItem p characters) d = refl
+datum_written t (ListItem p q under) d = rw (append-nil (written (data_in t under))) refl
+datum_written t (QuoteItem function p i) d = rw (append-nil (written (datum_in t i NoData))) refl
 
--- the beginning of a list
-open_shows : (names : List (List ℕ)) (p q : ℕ) (u d : Data) (es : List Data)
-    → moved Open p (shown names u (d ∷ es)) ≡ shown names (Nested p q u d) es
-open_shows names p q u d es =
-    rw (add-one (items_of d), append_assoc (written (datums_in names u)) (written (datums_in names d)) (nodes_of names es)) refl
+-- a quote in front of an item
+quote_shows : (t : Tables) (i : Item) (id p : ℕ) (d : Data) (es : List Data)
+    → quoted id p (shown (datum_in t i d) es) ≡ shown (Listed p (Atom (SymbolLeaf id) p (datum_in t i NoData)) d) es
+quote_shows t i id p d es =
+    rw (one_datum t i d, one_datum t i NoData, datum_written t i d, append_assoc (written (datum_in t i NoData)) (written d) (all_written es)) refl
 
--- data in front of what is shown
-spelled : (names : List (List ℕ)) (d e : Data) (es : List Data) (ps : List Piece)
-    → built (map (token_of names) ps) ≡ shown names e es
-    → built (map (token_of names) (spelling d ++ ps)) ≡ shown names (before d e) es
-spelled names NoData e es ps h = h
-spelled names (Word' p letters d) e es ps h =
-    ap (moved (kind_of (word_in names letters)) p) (spelled names d e es ps h) ∙ word_shows names p letters (before d e) es
-spelled names (Nested p q u d) e es ps h =
-    let after : built (map (token_of names) (Closing q ∷ (spelling d ++ ps))) ≡ shown names NoData (before d e ∷ es) =
-    ap (moved Close q) (spelled names d e es ps h) in
-    let inside : built (map (token_of names) (spelling u ++ (Closing q ∷ (spelling d ++ ps)))) ≡ shown names u (before d e ∷ es) =
-    spelled names u NoData (before d e ∷ es) (Closing q ∷ (spelling d ++ ps)) after ∙ ap (λ v. shown names v (before d e ∷ es)) (before_none u) in
-    rw (append_assoc (spelling u)) (ap (moved Open p) inside ∙ open_shows names p q u (before d e) es)
+mutual
+  -- the marks of an item in front of what is shown
+  item_builds : (t : Tables) (i : Item) (d : Data) (es : List Data) (ps : List Part) → built (map (mark_of t) ps) ≡ shown d es
+      → built (map (mark_of t) (spelled_item i ++ ps)) ≡ shown (datum_in t i d) es
+  item_builds t (TokenItem p letters) d es ps h =
+      let leaf = leaf_of t.symbols letters (meaning_in letters) in ap (moved (ALeaf leaf) p) h ∙ atom_shows leaf p d es
+  item_builds t (LiteralItem p characters) d es ps h =
+      let leaf = TextLeaf (number_in t.literals characters) in ap (moved (ALeaf leaf) p) h ∙ atom_shows leaf p d es
+  item_builds t (ListItem p q under) d es ps h =
+      let closed : built (map (mark_of t) (Closes q ∷ ps)) ≡ shown NoData (d ∷ es) = ap (moved Close q) h in
+      let inside : built (map (mark_of t) (spelled under ++ (Closes q ∷ ps))) ≡ shown (data_in t under) (d ∷ es) =
+      items_build t under (d ∷ es) (Closes q ∷ ps) closed in
+      rw (append_assoc (spelled under) (Closes q ∷ []) ps) (ap (moved Open p) inside ∙ list_shows p (data_in t under) d es)
+  item_builds t (QuoteItem function p i) d es ps h =
+      let id = number_in t.symbols (quote_name function) in
+      ap (moved (Quote id) p) (item_builds t i d es ps h) ∙ quote_shows t i id p d es
 
--- the tokens of data build what shows it
-pub data_builds : (names : List (List ℕ)) (d : Data) → built (map (token_of names) (spelling d)) ≡ shown names d []
-data_builds names d =
-    let all : spelling d ++ [] ≡ spelling d = append-nil (spelling d) in
-    ap (λ ps. built (map (token_of names) ps)) (sym all) ∙ spelled names d NoData [] [] refl ∙ ap (λ e. shown names e []) (before_none d)
+  -- the marks of items at the front of the innermost list
+  items_build : (t : Tables) (is : Items) (es : List Data) (ps : List Part) → built (map (mark_of t) ps) ≡ shown NoData es
+      → built (map (mark_of t) (spelled is ++ ps)) ≡ shown (data_in t is) es
+  items_build t NoItems es ps h = h
+  items_build t (ItemAnd first others) es ps h =
+      rw (append_assoc (spelled_item first) (spelled others) ps)
+      (item_builds t first (data_in t others) es (spelled others ++ ps) (items_build t others es ps h))
 
--- the nodes are those of the data
-pub data_nodes : (names : List (List ℕ)) (d : Data)
-    → (built (map (token_of names) (spelling d))).nodes ≡ written (datums_in names d)
-data_nodes names d = ap (λ b. b.nodes) (data_builds names d) ∙ append-nil (written (datums_in names d))
+-- the marks of a text build the nodes of its data
+pub nodes_built : (t : Tables) (is : Items) (ps : List Part) → spelled is ≡ ps → (built (map (mark_of t) ps)).nodes ≡ written (data_in t is)
+nodes_built t is ps h =
+    let all : spelled is ++ [] ≡ ps = append-nil (spelled is) ∙ h in
+    ap (λ (x : List Part). (built (map (mark_of t) x)).nodes) (sym all) ∙ ap (λ (b : Builder). b.nodes) (items_build t is [] [] refl)
+    ∙ append-nil (written (data_in t is))
 
 -- the beginning of a list leaves the list around it, with one item more
 left_total : (outer : List ℕ) → or_none (top_of outer) + 1 + sum_by (λ n. n) (below outer) ≤ sum_by (λ n. n) outer + 1
 left_total [] = omega arith
 left_total (n ∷ outer) = rw (sum_by-cons (λ n. n) n outer) (omega arith)
 
--- each token adds at most one item
-moved_total : (k : TokenKind) (p : ℕ) (b : Builder) → total (moved k p b) ≤ total b + 1
+-- each mark adds at most one datum
+moved_total : (k : MarkKind) (p : ℕ) (b : Builder) → total (moved k p b) ≤ total b + 1
 moved_total Open p b = omega (arith, left_total b.outer)
 moved_total Close p b = rw (sum_by-cons (λ n. n) b.items b.outer) (omega arith)
-moved_total (Known w) p b = omega arith
-moved_total Unknown p b = omega arith
+moved_total (Quote id) p b = omega arith
+moved_total (ALeaf leaf) p b = omega arith
 
--- no more items are counted than there are tokens
-pub built_total : (ts : List Token) → total (built ts) ≤ length ts
+-- no more data are counted than there are marks
+pub built_total : (ms : List Mark) → total (built ms) ≤ length ms
 built_total [] = omega arith
-built_total (t ∷ ts) = omega (arith, built_total ts, moved_total t.kind t.place (built ts))
+built_total (m ∷ ms) = omega (arith, built_total ms, moved_total m.kind m.place (built ms))
+
+-- each mark adds at most two nodes
+moved_nodes : (k : MarkKind) (p : ℕ) (b : Builder) → length (moved k p b).nodes ≤ length b.nodes + 2
+moved_nodes Open p b = omega arith
+moved_nodes Close p b = omega arith
+moved_nodes (Quote id) p b = omega arith
+moved_nodes (ALeaf leaf) p b = omega arith
+
+-- so there are few nodes
+pub built_nodes : (ms : List Mark) → length (built ms).nodes ≤ length ms + length ms
+built_nodes [] = omega arith
+built_nodes (m ∷ ms) = omega (arith, built_nodes ms, moved_nodes m.kind m.place (built ms))

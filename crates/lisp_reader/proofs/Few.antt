@@ -1,60 +1,63 @@
--- A program that is not refused defines at most 256 names.
-use Rattle.std.proofs.Common.{◌≡◌, ℕ, suc, ◌+◌, ◌≤◌, Bool, true, false, ◌||◌, ◌==◌, cond, List, [], ◌∷◌, ◌++◌, length, Option, Some, None, refl, arith}
-use Rattle.std.proofs.lemmas.Bool.Decides.{nat_tests}
-use Rattle.std.proofs.lemmas.List.{length-append}
-use Rattle.lisp_base.specs.Forest.{NoTrees, Tree, behind}
-use Rattle.lisp_reader.specs.Datums.{Datums}
-use Rattle.lisp_reader.specs.Refused.{definition_in, definitions_in, has, known_after, or_refusal, refused_in, refused_program, refused_top, scope_of, with_name}
-use Rattle.lisp_reader.specs.declared.datum.DatumKind.{DatumKind}
-use Rattle.lisp_reader.specs.declared.refusal.ReadRefusal.{ReadRefusal}
-use Rattle.lisp_reader.specs.declared.refusal.ReadRefusal.TheVariants.{Refused}
+-- A text has no more parts than bytes.
+use Rattle.std.proofs.Common.{ℕ, suc, ◌+◌, ◌≤◌, ◌==◌, ◌&&◌, Bool, true, false, if◌then◌else◌, List, [], ◌∷◌, ◌++◌, length, arith}
+use Rattle.lisp_reader.specs.Parts.{Part, Opens, Closes, Quotes, Literal, OpenLiteral, Token', Where', Between, Within, Sharp, Comment, Inside, Escaped, begins_with_quote, is_separator, parts_from, with_token_letter}
 
--- neither of two is a refusal
-first_none : (a b : Option ReadRefusal) → or_refusal a b ≡ None → a ≡ None
-first_none None b h = refl
-first_none (Some r) b h = cc
+-- how many parts have begun already
+abbrev begun_parts : Where' → ℕ
+begun_parts Between = 0
+begun_parts Within = 0
+begun_parts Sharp = 0
+begun_parts Comment = 0
+begun_parts (Inside start so_far) = 1
+begun_parts (Escaped start so_far) = 1
 
--- so it is with the later one
-second_none : (a b : Option ReadRefusal) → or_refusal a b ≡ None → b ≡ None
-second_none None b h = h
-second_none (Some r) b h = cc
+-- both are short enough
+either : (b : Bool) (x y : List Part) (n : ℕ) → length x ≤ n → length y ≤ n → length (if b then x else y) ≤ n
+either true x y n h k = h
+either false x y n h k = k
 
--- a definition that is not refused is within the limit
-room_by : (known full : Bool) (p : ℕ) (later : Option ReadRefusal)
-    → cond (known || full) (Some (Refused 10 p)) later ≡ None → full ≡ false
-room_by true full p later h = cc
-room_by false true p later h = cc
-room_by false false p later h = refl
+-- a letter makes at most one token more
+letter_length : (p b : ℕ) (ps : List Part) → length (with_token_letter p b ps) ≤ suc (length ps)
+letter_length p b [] = omega arith
+letter_length p b (Token' q bs ∷ ps) = either (q == suc p) _ _ _ (omega arith) (omega arith)
+letter_length p b (Opens q ∷ ps) = omega arith
+letter_length p b (Closes q ∷ ps) = omega arith
+letter_length p b (Quotes function q ∷ ps) = omega arith
+letter_length p b (Literal q characters ∷ ps) = omega arith
+letter_length p b (OpenLiteral q ∷ ps) = omega arith
 
--- the same of a top-level definition
-room : (all known : List ℕ) (x : ℕ) (k : DatumKind) (p : ℕ) (under : Datums)
-    → refused_top (scope_of known all) (Some x) k p under ≡ None → (length known == 256) ≡ false
-room all known x k p under h =
-    room_by (has known x) (length known == 256) p (refused_in (scope_of known all) (behind 2 under)) h
-
--- one name more is within the limit
-one_more : (known : List ℕ) → (length known == 256) ≡ false → length known ≤ 256 → suc (length known) ≤ 256
-one_more known other within = grind (arith, nat_tests)
-
--- the names of one form, and of those beside it
-few_by : (all known : List ℕ) (d : Option ℕ) (k : DatumKind) (p : ℕ) (under : Datums) (later : List ℕ)
-    → refused_top (scope_of known all) d k p under ≡ None → length known ≤ 256
-    → (length (known_after known d) ≤ 256 → length (known_after known d) + length later ≤ 256)
-    → length known + length (with_name d later) ≤ 256
-few_by all known None k p under later h within rest = rest within
-few_by all known (Some x) k p under later h within rest =
-    let longer : length (known ++ x ∷ []) ≡ length known + 1 = length-append known (x ∷ []) in
-    let more : suc (length known) ≤ 256 = one_more known (room all known x k p under h) within in
-    omega (arith, rest (rw longer (omega arith)), longer)
-
--- the names so far, and those still to come
-few : (all known : List ℕ) (program : Datums) → refused_program all known program ≡ None → length known ≤ 256
-    → length known + length (definitions_in program) ≤ 256
-few all known NoTrees h within = omega arith
-few all known (Tree k p under beside) h within =
-    few_by all known (definition_in k under) k p under (definitions_in beside) (first_none _ _ h) within
-    (λ more. few all (known_after known (definition_in k under)) beside (second_none _ _ h) more)
-
--- so many names are defined
-pub few_definitions : (all : List ℕ) (program : Datums) → refused_program all [] program ≡ None → length (definitions_in program) ≤ 256
-few_definitions all program h = omega (arith, few all [] program h (omega arith))
+-- no more parts come than there are bytes left, but for the one that has begun
+pub parts_length : (w : Where') (p : ℕ) (bs : List ℕ) → length (parts_from w p bs) ≤ length bs + begun_parts w
+parts_length Between p [] = omega arith
+parts_length Within p [] = omega arith
+parts_length Sharp p [] = omega arith
+parts_length Comment p [] = omega arith
+parts_length (Inside start so_far) p [] = omega arith
+parts_length (Escaped start so_far) p [] = omega arith
+parts_length Comment p (b ∷ bs) =
+    either (b == 10) _ _ (suc (length bs) + 0) (omega (arith, parts_length Between (suc p) bs)) (omega (arith, parts_length Comment (suc p) bs))
+parts_length (Inside start so_far) p (b ∷ bs) =
+    either (b == 34) _ _ (suc (length bs) + 1) (omega (arith, parts_length Between (suc p) bs))
+    (either (b == 92) _ _ (suc (length bs) + 1) (omega (arith, parts_length (Escaped start so_far) (suc p) bs))
+    (omega (arith, parts_length (Inside start (so_far ++ b ∷ [])) (suc p) bs)))
+parts_length (Escaped start so_far) p (b ∷ bs) = omega (arith, parts_length (Inside start (so_far ++ b ∷ [])) (suc p) bs)
+parts_length Sharp p (b ∷ bs) = omega (arith, parts_length Between (suc p) bs)
+parts_length Between p (b ∷ bs) =
+    let rest = parts_length Between (suc p) bs in
+    either (is_separator b) _ _ (suc (length bs) + 0) (omega (arith, rest))
+    (either (b == 59) _ _ (suc (length bs) + 0) (omega (arith, parts_length Comment (suc p) bs))
+    (either (b == 34) _ _ (suc (length bs) + 0) (omega (arith, parts_length (Inside p []) (suc p) bs))
+    (either (b == 40) _ _ (suc (length bs) + 0) (omega (arith, rest))
+    (either (b == 41) _ _ (suc (length bs) + 0) (omega (arith, rest))
+    (either (b == 39) _ _ (suc (length bs) + 0) (omega (arith, rest))
+    (either ((b == 35) && begins_with_quote bs) _ _ (suc (length bs) + 0) (omega (arith, parts_length Sharp (suc p) bs))
+    (omega (arith, letter_length p b (parts_from Within (suc p) bs), parts_length Within (suc p) bs))))))))
+parts_length Within p (b ∷ bs) =
+    let rest = parts_length Between (suc p) bs in
+    either (is_separator b) _ _ (suc (length bs) + 0) (omega (arith, rest))
+    (either (b == 59) _ _ (suc (length bs) + 0) (omega (arith, parts_length Comment (suc p) bs))
+    (either (b == 34) _ _ (suc (length bs) + 0) (omega (arith, parts_length (Inside p []) (suc p) bs))
+    (either (b == 40) _ _ (suc (length bs) + 0) (omega (arith, rest))
+    (either (b == 41) _ _ (suc (length bs) + 0) (omega (arith, rest))
+    (either (b == 39) _ _ (suc (length bs) + 0) (omega (arith, rest))
+    (omega (arith, letter_length p b (parts_from Within (suc p) bs), parts_length Within (suc p) bs)))))))

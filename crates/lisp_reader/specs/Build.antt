@@ -1,20 +1,21 @@
--- The items of a text, built token by token from the last to the first.
+-- The nodes of data, built mark by mark from the last to the first.
 use Rattle.std.specs.Prelude.{ℕ, ◌+◌, List, [], ◌∷◌, Option, Some, None, sum_by}
-use Rattle.lisp_reader.specs.declared.datum.Builder.{Builder}
+use Rattle.lisp_reader.specs.declared.build.Builder.{Builder}
 use Rattle.lisp_reader.specs.declared.datum.DatumKind.{DatumKind}
-use Rattle.lisp_reader.specs.declared.datum.DatumKind.TheVariants.{Word, Unknown as UnknownDatum, ListOf}
-use Rattle.lisp_reader.specs.declared.token.Token.{Token}
-use Rattle.lisp_reader.specs.declared.token.TokenKind.{TokenKind}
-use Rattle.lisp_reader.specs.declared.token.TokenKind.TheVariants.{Open, Close, Known, Unknown}
+use Rattle.lisp_reader.specs.declared.datum.DatumKind.TheVariants.{List as AList, Symbol as ASymbol}
+use Rattle.lisp_reader.specs.declared.gather.Mark.{Mark}
+use Rattle.lisp_reader.specs.declared.gather.MarkKind.{MarkKind}
+use Rattle.lisp_reader.specs.declared.gather.MarkKind.TheVariants.{Open, Close, Quote, ALeaf}
+use Rattle.lisp_reader.specs.Data.{leaf_kind, node_at}
 use Rattle.lisp_reader.specs.Stack.{top_of, below}
 
 -- nothing built
 abbrev pub nothing_built : Builder
 nothing_built = record { items = 0; outer = []; nodes = [] }
 
--- one more item in front of the innermost list
+-- one datum more in front of the innermost list
 abbrev pub with_item : DatumKind → ℕ → Builder → Builder
-with_item k p b = record b { items = b.items + 1; nodes = (record { kind = k; place = p }) ∷ b.nodes }
+with_item k p b = record b { items = b.items + 1; nodes = node_at k p ∷ b.nodes }
 
 -- the end of a list
 abbrev pub closed : Builder → Builder
@@ -27,20 +28,24 @@ or_none (Some n) = n
 
 -- the beginning of a list
 abbrev pub opened : ℕ → Builder → Builder
-opened p b = with_item (ListOf b.items) p (record b { items = or_none (top_of b.outer); outer = below b.outer })
+opened p b = with_item (AList b.items) p (record b { items = or_none (top_of b.outer); outer = below b.outer })
 
--- one token of this kind at this place, in front of the others
-abbrev pub moved : TokenKind → ℕ → Builder → Builder
+-- a quote makes a list of two of the first datum, with its symbol in front
+abbrev pub quoted : ℕ → ℕ → Builder → Builder
+quoted id p b = record b { nodes = node_at (AList 2) p ∷ (node_at (ASymbol id) p ∷ b.nodes) }
+
+-- one mark of this kind at this place, in front of the others
+abbrev pub moved : MarkKind → ℕ → Builder → Builder
 moved Open p b = opened p b
 moved Close p b = closed b
-moved (Known w) p b = with_item (Word w) p b
-moved Unknown p b = with_item UnknownDatum p b
+moved (Quote id) p b = quoted id p b
+moved (ALeaf leaf) p b = with_item (leaf_kind leaf) p b
 
--- what these tokens build
-abbrev pub built : List Token → Builder
+-- what these marks build
+abbrev pub built : List Mark → Builder
 built [] = nothing_built
-built (t ∷ ts) = moved t.kind t.place (built ts)
+built (m ∷ ms) = moved m.kind m.place (built ms)
 
--- how many items are counted
+-- how many data are counted
 abbrev pub total : Builder → ℕ
 total b = b.items + sum_by (λ n. n) b.outer

@@ -1,47 +1,60 @@
--- What a text holds, and its first fault in the order of reading.
-use Rattle.std.specs.Prelude.{ℕ, suc, List, [], ◌∷◌, ◌++◌, Option, Some, None, is_some, if◌then◌else◌, ◌==◌, length}
-use Rattle.lisp_base.specs.Forest.{NoTrees, Tree}
-use Rattle.lisp_reader.specs.declared.datum.DatumKind.TheVariants.{ListOf}
-use Rattle.lisp_reader.specs.declared.fault.ReadFault.{ReadFault}
-use Rattle.lisp_reader.specs.declared.fault.ReadFault.TheVariants.{NotBuilt, UnmatchedClose, EndInside}
-use Rattle.lisp_reader.specs.Datums.{Datums, word_datum}
-use Rattle.lisp_reader.specs.Names.{word_in}
-use Rattle.lisp_reader.specs.Pieces.{Piece, Opening, Closing, Letters}
-use Rattle.lisp_reader.specs.Words.{meaning_of}
+-- What a text of the whole grammar holds, and the data that it is read as.
+use Rattle.std.specs.Prelude.{ℕ, pos, List, [], ◌∷◌, ◌++◌, Bool}
+use Rattle.lisp_reader.specs.declared.datum.Leaf.{Leaf}
+use Rattle.lisp_reader.specs.declared.datum.Leaf.TheVariants.{Int, Symbol as SymbolLeaf, Text as TextLeaf, Time as TimeLeaf}
+use Rattle.lisp_reader.specs.declared.meaning.Meaning.{Meaning}
+use Rattle.lisp_reader.specs.declared.meaning.Meaning.TheVariants.{Integer, Time, Symbol, Keyword, TooLarge, Bad}
+use Rattle.lisp_reader.specs.Data.{Data, NoData, Atom, Listed}
+use Rattle.lisp_reader.specs.Gathering.{quote_name}
+use Rattle.lisp_reader.specs.Meanings.{keyword_name, meaning_in, symbol_name}
+use Rattle.lisp_reader.specs.Parts.{Part, Opens, Closes, Quotes, Literal, Token'}
+use Rattle.lisp_reader.specs.Tables.{Tables, number_in}
 
--- What a text holds: words and lists beside one another. A list has the places of its two parentheses.
-pub data Data : Type 0 where
-  NoData : Data
-  Word' : (place : ℕ) (letters : List ℕ) (beside : Data) → Data
-  Nested : (place close : ℕ) (under beside : Data) → Data
+-- the leaf that a token is, where these are the symbols; what a token with a fault is does not matter
+abbrev pub leaf_of : List (List ℕ) → List ℕ → Meaning → Leaf
+leaf_of symbols letters (Integer z) = Int z
+leaf_of symbols letters (Time t) = TimeLeaf t
+leaf_of symbols letters (Symbol start) = SymbolLeaf (number_in symbols (symbol_name start letters))
+leaf_of symbols letters Keyword = SymbolLeaf (number_in symbols (keyword_name letters))
+leaf_of symbols letters TooLarge = Int (pos 0)
+leaf_of symbols letters Bad = Int (pos 0)
 
--- the pieces with which data is written
-abbrev pub spelling : Data → List Piece
-spelling NoData = []
-spelling (Word' p letters beside) = Letters p letters ∷ spelling beside
-spelling (Nested p q under beside) = Opening p ∷ (spelling under ++ Closing q ∷ spelling beside)
+mutual
+  -- what a text holds at one place: a token, a string literal, a list with the places of its parentheses, or a quote and what it quotes
+  pub data Item : Type 0 where
+    TokenItem : (place : ℕ) (letters : List ℕ) → Item
+    LiteralItem : (place : ℕ) (characters : List ℕ) → Item
+    ListItem : (place close : ℕ) (under : Items) → Item
+    QuoteItem : (function : Bool) (place : ℕ) (quoted : Item) → Item
 
--- the first fault from here on, where the lists that begin at these places are open, innermost first
-abbrev pub fault_in : List ℕ → List Piece → Option ReadFault
--- the end comes inside a list
-fault_in [] [] = None
-fault_in (p ∷ opens) [] = Some (EndInside p)
--- lists are nested at most 256 deep
-fault_in opens (Opening p ∷ ps) = if length opens == 256 then Some (NotBuilt p) else fault_in (p ∷ opens) ps
--- a parenthesis closes nothing
-fault_in [] (Closing q ∷ ps) = Some (UnmatchedClose q)
-fault_in (p ∷ opens) (Closing q ∷ ps) = fault_in opens ps
--- a word is not known
-fault_in opens (Letters p letters ∷ ps) = if is_some (meaning_of letters) then fault_in opens ps else Some (NotBuilt p)
+  -- items one after the other
+  pub data Items : Type 0 where
+    NoItems : Items
+    ItemAnd : (first : Item) (others : Items) → Items
 
--- how many words and lists stand beside one another
-abbrev pub items_of : Data → ℕ
-items_of NoData = 0
-items_of (Word' p letters beside) = suc (items_of beside)
-items_of (Nested p q under beside) = suc (items_of beside)
+abbrev mutual
+  -- the parts with which an item is written
+  pub spelled_item : Item → List Part
+  spelled_item (TokenItem p letters) = Token' p letters ∷ []
+  spelled_item (LiteralItem p characters) = Literal p characters ∷ []
+  spelled_item (ListItem p q under) = Opens p ∷ (spelled under ++ Closes q ∷ [])
+  spelled_item (QuoteItem function p quoted) = Quotes function p ∷ spelled_item quoted
 
--- the same with the words known, where these are the names of the text
-abbrev pub datums_in : List (List ℕ) → Data → Datums
-datums_in names NoData = NoTrees
-datums_in names (Word' p letters beside) = Tree (word_datum (word_in names letters)) p NoTrees (datums_in names beside)
-datums_in names (Nested p q under beside) = Tree (ListOf (items_of under)) p (datums_in names under) (datums_in names beside)
+  -- those of items, one after the other
+  pub spelled : Items → List Part
+  spelled NoItems = []
+  spelled (ItemAnd first others) = spelled_item first ++ spelled others
+
+abbrev mutual
+  -- an item as a datum, in front of others, where these are the tables: `'x` is the list `(QUOTE x)`, and `#'x` the list `(FUNCTION x)`
+  pub datum_in : Tables → Item → Data → Data
+  datum_in t (TokenItem p letters) beside = Atom (leaf_of t.symbols letters (meaning_in letters)) p beside
+  datum_in t (LiteralItem p characters) beside = Atom (TextLeaf (number_in t.literals characters)) p beside
+  datum_in t (ListItem p q under) beside = Listed p (data_in t under) beside
+  datum_in t (QuoteItem function p quoted) beside =
+      Listed p (Atom (SymbolLeaf (number_in t.symbols (quote_name function))) p (datum_in t quoted NoData)) beside
+
+  -- items as data
+  pub data_in : Tables → Items → Data
+  data_in t NoItems = NoData
+  data_in t (ItemAnd first others) = datum_in t first (data_in t others)

@@ -1,104 +1,93 @@
-ghost use Rattle.std.specs.Prelude.{◌≡◌, ◌+◌, ◌<◌, ◌^◌, length, IfOk, OnOk};
-ghost use Rattle.lisp_reader.specs.Build.{built, closed, moved, nothing_built, opened, total, with_item};
+ghost use Rattle.std.specs.Prelude.{◌≡◌, ◌<◌, ◌^◌, length};
+ghost use Rattle.lisp_reader.specs.Data.{IsDatum, count_of, data_of, leaf_kind, written};
 
-use crate::stack::Stack;
-use crate::token::{Token, TokenKind, Word};
-use lisp_base::id::Place;
-use lisp_base::memory::Memory;
-use std::alloc::Global;
+use lisp_base::id::{Micros, Place, StringId, SymbolId};
+use std::marker::Model;
 
-/// What an item of a text is.
+/// A datum that is no list.
+#[derive(Clone, Copy, Debug, PartialEq, Eq)]
+pub enum Leaf {
+    /// An integer.
+    Int(i64),
+    /// A symbol or a keyword.
+    Symbol(SymbolId),
+    /// A string literal.
+    Text(StringId),
+    /// A time.
+    Time(Micros),
+}
+
+/// What a node of data is.
 #[derive(Clone, Copy, Debug, PartialEq, Eq)]
 pub enum DatumKind {
-    Word(Word),
-    /// A word that no program may use.
-    Unknown,
     /// A list of so many items.
-    ListOf(u32),
+    List(u32),
+    /// An integer, from -2^62 to 2^62 - 1.
+    Int(i64),
+    /// A symbol or a keyword.
+    Symbol(SymbolId),
+    /// A string literal.
+    Text(StringId),
+    /// A time, up to 4,000,000,000 seconds.
+    Time(Micros),
 }
 
-/// An item of a text in preorder, and its place.
+/// One node of data in preorder: where it begins, and what it is.
 #[derive(Clone, Copy, Debug, PartialEq, Eq)]
 pub struct DatumNode {
-    pub kind: DatumKind,
+    /// The place of its first byte in the text.
     pub place: Place,
+    pub kind: DatumKind,
 }
 
-/// What the tokens from some token on have built.
+/// One datum, as its nodes in preorder. Contracts see the tree.
 #[derive(Debug, Drop)]
-pub struct Builder {
-    /// How many items the innermost list has so far, whose beginning is still to come, or else the top level.
-    pub items: u32,
-    /// The same of the lists around it, innermost first.
-    pub outer: Stack<u32>,
-    /// The items, in preorder.
-    pub nodes: Stack<DatumNode>,
+pub struct Datum {
+    nodes: Vec<DatumNode>,
 }
 
-impl Builder {
-    fn new(alloc: Global) -> Self
-        ensures { result ≡ nothing_built }
+impl Model for Datum {
+    ghost use Rattle.lisp_reader.specs.Data.{Data, IsDatum, data_of};
+    ghost use Rattle.lisp_reader.specs.DataCode.{data_code};
+
+    ghost Value = { Data };
+
+    ghost coded = { data_code };
+
+    ghost view = { λ d. data_of d.nodes.items };
+
+    ghost invariant = { λ d. IsDatum d.nodes.items };
+}
+
+impl Leaf {
+    /// The kind of the node of a leaf.
+    pub fn kind(self) -> DatumKind
+        ensures { result ≡ leaf_kind self }
     {
-        Builder {
-            items: 0,
-            outer: Stack::new(alloc),
-            nodes: Stack::new(alloc),
+        match self {
+            Leaf::Int(number) => DatumKind::Int(number),
+            Leaf::Symbol(symbol) => DatumKind::Symbol(symbol),
+            Leaf::Text(text) => DatumKind::Text(text),
+            Leaf::Time(time) => DatumKind::Time(time),
         }
-    }
-
-    fn add_item(&mut self, kind: DatumKind, place: Place) -> Result<(), Memory>
-        requires { total self.old + 1 < 2 ^ 32 }
-        ensures { OnOk result (self.new ≡ with_item kind place self.old) }
-    {
-        self.items += 1;
-        self.nodes.push(DatumNode { kind, place })?;
-        Ok(())
-    }
-
-    /// The end of a list, of which nothing is seen yet.
-    fn close(&mut self) -> Result<(), Memory>
-        ensures { OnOk result (self.new ≡ closed self.old) }
-    {
-        self.outer.push(self.items)?;
-        self.items = 0;
-        Ok(())
-    }
-
-    /// The beginning of the innermost list.
-    fn open(&mut self, place: Place) -> Result<(), Memory>
-        requires { total self.old + 1 < 2 ^ 32 }
-        ensures { OnOk result (self.new ≡ opened place self.old) }
-    {
-        let kind = DatumKind::ListOf(self.items);
-        self.items = self.outer.pop().unwrap_or(0);
-        self.add_item(kind, place)?;
-        Ok(())
-    }
-
-    /// One token more, in front of the others.
-    fn add(&mut self, token: Token) -> Result<(), Memory>
-        requires { total self.old + 1 < 2 ^ 32 }
-        ensures { OnOk result (self.new ≡ moved token.kind token.place self.old) }
-    {
-        let Token { kind, place } = token;
-        match kind {
-            TokenKind::Open => self.open(place)?,
-            TokenKind::Close => self.close()?,
-            TokenKind::Known(word) => self.add_item(DatumKind::Word(word), place)?,
-            TokenKind::Unknown => self.add_item(DatumKind::Unknown, place)?,
-        }
-        Ok(())
     }
 }
 
-/// The items of a text with these tokens, in preorder.
-pub fn data(alloc: Global, tokens: &[Token]) -> Result<Vec<DatumNode>, Memory>
-    requires { length tokens.now < 2 ^ 30 }
-    ensures { IfOk result (λ nodes. nodes.items ≡ (built tokens.now).nodes) }
-{
-    let mut builder = Builder::new(alloc);
-    for token in tokens.iter().rev().copied() {
-        builder.add(token)?;
+impl Datum {
+    /// The datum with these nodes. It takes no memory.
+    pub fn of(nodes: Vec<DatumNode>) -> Self
+        requires { IsDatum nodes.items }
+        ensures { result ≡ data_of nodes.items }
+    {
+        Datum { nodes }
     }
-    Ok(builder.nodes.into_vec())
+
+    /// Its nodes, each list before its items.
+    pub fn nodes(&self) -> &[DatumNode]
+        ensures nodes { result.now ≡ written self.now }
+        ensures one { count_of self.now ≡ 1 }
+        ensures short { length result.now < 2 ^ 30 }
+    {
+        self.nodes.as_slice()
+    }
 }

@@ -1,146 +1,93 @@
-ghost use Rattle.std.specs.Prelude.{◌≡◌, ◌<◌, ◌≤◌, ◌^◌, drop, length, IfOk};
-ghost use Rattle.lisp_reader.specs.Datums.{datums_of, first_kind, name_in, operator_in, parts_of};
-ghost use Rattle.lisp_reader.specs.Refused.{are_variables, definitions_in, first_definition, is_first_variable, variable_count};
-ghost use Rattle.lisp_reader.specs.Taking.{IsBehind, items_at};
+ghost use Rattle.std.specs.Prelude.{◌≡◌, ◌<◌, ◌^◌, length, IfNone, IfSome};
+ghost use Rattle.lisp_reader.specs.Data.{NoData, count_of, written};
+ghost use Rattle.lisp_reader.specs.First.{with_first};
 
-use crate::datum::{DatumKind, DatumNode};
-use crate::token::{Operator, Word};
-use lisp_base::memory::Memory;
-use std::alloc::Global;
+use crate::datum::{Datum, DatumKind, DatumNode, Leaf};
+use crate::split::end_of;
+use lisp_base::id::Place;
+use std::marker::Model;
 
-/// A `let` binds so many variables at most.
-const MOST_VARIABLES: u32 = 16;
-
-/// The kind of the item at a node, which is not known where there is none.
-pub fn kind_at(nodes: &[DatumNode], at: usize) -> DatumKind
-    ensures { result ≡ first_kind (datums_of (drop at nodes.now)) }
-{
-    match nodes.get(at) {
-        Some(node) => node.kind,
-        None => DatumKind::Unknown,
-    }
+/// Data beside one another. Contracts see them as trees.
+#[derive(Debug, Drop)]
+pub struct Items<'a> {
+    nodes: &'a [DatumNode],
+    count: u32,
 }
 
-/// The operator that an item is.
-pub fn operator_of(kind: DatumKind) -> Option<Operator>
-    ensures { result ≡ operator_in kind }
-{
-    match kind {
-        DatumKind::Word(Word::Operator(operator)) => Some(operator),
-        _ => None,
-    }
+impl<'a> Model for Items<'a> {
+    ghost use Rattle.lisp_reader.specs.Data.{AreItems, Data, data_of};
+    ghost use Rattle.lisp_reader.specs.DataCode.{data_code};
+
+    ghost Value = { Data };
+
+    ghost coded = { data_code };
+
+    ghost view = { λ i. data_of i.nodes.now };
+
+    ghost invariant = { λ i. AreItems i.nodes.now i.count };
 }
 
-/// The name that an item is.
-pub fn name_of(kind: DatumKind) -> Option<u32>
-    ensures { result ≡ name_in kind }
-{
-    match kind {
-        DatumKind::Word(Word::Name(name)) => Some(name),
-        _ => None,
-    }
+/// The first of several data: a leaf with its place, or a list with its place and its items.
+#[derive(Debug, Drop)]
+pub enum First<'a> {
+    Leaf(Leaf, Place),
+    List(Place, Items<'a>),
 }
 
-/// How many items stand under a node.
-fn parts(node: &DatumNode) -> u32
-    ensures { result ≡ parts_of node.now.kind }
-{
-    match node.kind {
-        DatumKind::ListOf(count) => count,
-        _ => 0,
-    }
-}
-
-/// The node behind the item at a node and all that stands under it.
-pub fn skip(nodes: &[DatumNode], at: usize) -> usize
-    requires there { at < length nodes.now }
-    requires short { length nodes.now < 2 ^ 30 }
-    ensures behind { IsBehind nodes.now at 1 result }
-    ensures on { at < result }
-{
-    let mut open: u64 = 1;
-    let mut next = at;
-    while open > 0 && next < nodes.len() {
-        open = open - 1 + u64::from(parts(&nodes[next]));
-        next += 1;
-    }
-    next
-}
-
-/// The name that the item at a node defines, as a top-level form.
-#[tactic(auto, using(crate::proofs::Shapes::definition_defvar, crate::proofs::Shapes::definition_other))]
-pub fn definition_at(nodes: &[DatumNode], at: usize) -> Option<u32>
-    requires { length nodes.now < 2 ^ 30 }
-    ensures { result ≡ first_definition (datums_of (drop at nodes.now)) }
-{
-    match kind_at(nodes, at) {
-        DatumKind::ListOf(3) => match operator_of(kind_at(nodes, at + 1)) {
-            Some(Operator::Defvar) => name_of(kind_at(nodes, at + 2)),
-            _ => None,
-        },
-        _ => None,
-    }
-}
-
-/// The names that a program defines, in order.
-pub fn definitions(alloc: Global, nodes: &[DatumNode]) -> Result<Vec<u32>, Memory>
-    requires { length nodes.now < 2 ^ 30 }
-    ensures { IfOk result (λ names. names.items ≡ definitions_in (datums_of nodes.now)) }
-{
-    let mut names = Vec::new(alloc);
-    let mut at = 0;
-    while at < nodes.len() {
-        if let Some(name) = definition_at(nodes, at) {
-            names.push(name)?;
+impl<'a> Items<'a> {
+    /// Just one datum.
+    pub fn of(datum: &'a Datum) -> Items<'a>
+        ensures same { result ≡ datum.now }
+        ensures one { count_of result ≡ 1 }
+        ensures short { length (written result) < 2 ^ 30 }
+    {
+        Items {
+            nodes: datum.nodes(),
+            count: 1,
         }
-        at = skip(nodes, at);
     }
-    Ok(names)
-}
 
-/// Whether the item at a node is a variable of a `let`.
-#[tactic(auto, using(crate::proofs::Shapes::variable_by))]
-fn is_variable_at(nodes: &[DatumNode], at: usize) -> bool
-    requires { length nodes.now < 2 ^ 30 }
-    ensures { result ≡ is_first_variable (datums_of (drop at nodes.now)) }
-{
-    match kind_at(nodes, at) {
-        DatumKind::ListOf(2) => name_of(kind_at(nodes, at + 1)).is_some(),
-        _ => false,
+    /// How many there are.
+    pub fn count(&self) -> u32
+        ensures { result ≡ count_of self.now }
+    {
+        self.count
     }
-}
 
-/// Whether the next so many items from a node on are variables of a `let`.
-fn are_variables_at(nodes: &[DatumNode], from: usize, count: u32) -> bool
-    requires { length nodes.now < 2 ^ 30 }
-    ensures { result ≡ are_variables (items_at nodes.now from count) }
-{
-    let mut at = from;
-    for _left in 0..count {
-        if at >= nodes.len() {
-            return true;
-        }
-        if !is_variable_at(nodes, at) {
-            return false;
-        }
-        at = skip(nodes, at);
+    /// There are fewer than a text has room for.
+    pub fn are_few(&self)
+        ensures { count_of self.now < 2 ^ 30 }
+    {
+        let _ = &self.nodes;
     }
-    true
-}
 
-/// How many variables the list at a node has, where it is the list of variables of a `let`.
-pub fn variables_at(nodes: &[DatumNode], at: usize) -> Option<u32>
-    requires { length nodes.now < 2 ^ 30 }
-    ensures { result ≡ variable_count (datums_of (drop at nodes.now)) }
-{
-    match kind_at(nodes, at) {
-        DatumKind::ListOf(count) => {
-            if count > 0 && count <= MOST_VARIABLES && are_variables_at(nodes, at + 1, count) {
-                Some(count)
-            } else {
-                None
-            }
+    /// The first and the others: `None` exactly where there are none.
+    pub fn split_first(&self) -> Option<(First<'a>, Items<'a>)>
+        ensures some { IfSome result (λ split. self.now ≡ with_first split.0 split.1) }
+        ensures none { IfNone result (self.now ≡ NoData) }
+    {
+        if self.count == 0 {
+            return None;
         }
-        _ => None,
+        let node = &self.nodes[0];
+        let end = end_of(self.nodes, 0);
+        let others = Items {
+            nodes: &self.nodes[end..],
+            count: self.count - 1,
+        };
+        let first = match node.kind {
+            DatumKind::List(count) => First::List(
+                node.place,
+                Items {
+                    nodes: &self.nodes[1..end],
+                    count,
+                },
+            ),
+            DatumKind::Int(number) => First::Leaf(Leaf::Int(number), node.place),
+            DatumKind::Symbol(symbol) => First::Leaf(Leaf::Symbol(symbol), node.place),
+            DatumKind::Text(text) => First::Leaf(Leaf::Text(text), node.place),
+            DatumKind::Time(time) => First::Leaf(Leaf::Time(time), node.place),
+        };
+        Some((first, others))
     }
 }

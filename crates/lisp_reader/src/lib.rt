@@ -1,16 +1,15 @@
-//! Reads the text of a program.
+//! Reads the text of a program, and prints values.
 #![tactic(auto)]
 
-mod datum;
-mod expand;
-mod fault;
-mod items;
-mod lexer;
-mod names;
-mod numbering;
+mod build;
+pub mod datum;
+mod gather;
+pub mod items;
+mod meaning;
+mod opens;
+pub mod print;
 pub mod reader;
 pub mod refusal;
-mod scope;
+mod scan;
+mod split;
 mod stack;
-pub mod token;
-mod words;

@@ -1,58 +1,43 @@
-ghost use Rattle.std.specs.Prelude.{◌≡◌, IfOk, IfErr};
-ghost use Rattle.lisp_program.specs.Forms.{forms_of, preorder};
-ghost use Rattle.lisp_reader.specs.Reading.{IsRefusal, OneReading, OneRefusal, ReadOrRefused, Reads, program_with};
+ghost use Rattle.std.specs.Prelude.{◌≡◌, IfOk};
+ghost use Rattle.std.specs.Result.{IfErr};
+ghost use Rattle.lisp_reader.specs.Reading.{IsRefusal, OneReading, OneRefusal, ReadOrRefused, Reads};
+ghost use Rattle.lisp_reader.specs.Tables.{tables_of};
 
-use crate::datum::data;
-use crate::expand::expand;
-use crate::fault::first_fault;
-use crate::items::definitions;
-use crate::lexer::tokens;
-use crate::names::Names;
-use crate::numbering::{specials, symbols};
-use crate::refusal::{ReadRefusal, TOO_LONG};
-use lisp_base::id::{Place, SymbolId};
-use lisp_program::form::Program;
+use crate::build::nodes_of;
+use crate::datum::Datum;
+use crate::gather::gather;
+use crate::refusal::{NOT_UTF8, ReadRefusal, TOO_LONG};
+use crate::split::split;
+use lisp_base::id::Place;
 use std::alloc::Global;
 use symbol_table::symbols::Symbols;
+use symbol_table::texts::Texts;
 
 /// A program has so many bytes at most.
 const LONGEST: usize = 1_048_576;
 
-/// A program that was read.
-#[derive(Debug, Drop)]
-pub struct Reading {
-    pub program: Program,
-    /// Its special variables, in order of definition.
-    pub specials: Vec<SymbolId>,
-    /// The names of its symbols.
-    pub symbols: Symbols,
-}
-
-/// Reads the text of a program. It errs where the text is none, and where memory runs out.
-pub fn read_forms(alloc: Global, text: &[u8]) -> Result<Reading, ReadRefusal>
-    ensures read { IfOk result (λ reading. Reads text.now reading.symbols (program_with reading.program reading.specials.items)) }
-    ensures whole { IfOk result (λ reading. preorder (forms_of reading.program) ≡ reading.program) }
-    ensures refused { IfErr result (IsRefusal text.now) }
+/// Reads the text of a program: the data at its top level, in order. Its names and string literals go into the tables, each new one
+/// with the next number, in the order of their first use. It errs where the text is none, and where memory runs out; then the
+/// tables keep what came into them.
+pub fn read_program(
+    alloc: Global,
+    text: &[u8],
+    symbols: &mut Symbols,
+    texts: &mut Texts,
+) -> Result<Vec<Datum>, ReadRefusal>
+    ensures read { IfOk result (λ read. Reads text.now (tables_of symbols.old texts.old) (tables_of symbols.new texts.new) read.items) }
+    ensures refused { IfErr result (IsRefusal text.now (tables_of symbols.old texts.old) (tables_of symbols.new texts.new)) }
 {
     if text.len() > LONGEST {
-        return Err(ReadRefusal::Refused {
-            number: TOO_LONG,
-            place: Place(LONGEST as u32),
-        });
+        return Err(ReadRefusal::at(TOO_LONG, Place(LONGEST as u32)));
     }
-    let mut names = Names::new(alloc);
-    let tokens = tokens(alloc, text, &mut names)?;
-    if let Some(fault) = first_fault(alloc, tokens.as_slice())? {
-        return Err(fault.refusal());
+    if let Err(error) = str::from_utf8(text) {
+        return Err(ReadRefusal::at(NOT_UTF8, Place(error.valid_up_to() as u32)));
     }
-    let nodes = data(alloc, tokens.as_slice())?;
-    let defined = definitions(alloc, nodes.as_slice())?;
-    let forms = expand(alloc, nodes.as_slice(), defined.as_slice())?;
-    Ok(Reading {
-        program: Program::of(forms),
-        specials: specials(alloc, defined.as_slice())?,
-        symbols: symbols(alloc, &names, defined.as_slice())?,
-    })
+    let marks = gather(alloc, text, symbols, texts)?;
+    let nodes = nodes_of(alloc, marks.as_slice())?;
+    let data = split(alloc, nodes.as_slice())?;
+    Ok(data)
 }
 
 /// A text has at most one reading. There is nothing to run: the clause is the law, as in the two below.

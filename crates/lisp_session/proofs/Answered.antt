@@ -6,7 +6,8 @@ use Rattle.thread_semantics.specs.State.{ThreadState}
 use Rattle.run_semantics.specs.declared.report.Report.{Report}
 use Rattle.run_semantics.specs.Run.{RunsAs}
 use Rattle.run_semantics.specs.Report.{status_of, has_ended}
-use Rattle.lisp_reader.specs.Reading.{Reads}
+use Rattle.lisp_reader.specs.Tables.{Tables}
+use Rattle.lisp_session.specs.Programs.{Reads}
 use Rattle.lisp_journal.specs.Journal.{journal_text}
 use Rattle.lisp_journal.specs.Report.{report_text}
 use Rattle.lisp_session.specs.Headline.{steps, IsRunText, IsRunStatus}
@@ -21,19 +22,19 @@ run_status (s ∷ ss) = by_end (has_ended s.control) (status_of ss) (run_status 
     by_end false n h = inr refl
 
 -- journal and report of a run are its text
-pub run_written : (bytes text : List ℕ) (symbols : List (List ℕ)) (program : Program) (journal : List Entry) (report : Report) → RunsAs steps program journal report
-    → text ≡ journal_text symbols journal ++ report_text symbols report → Reads bytes symbols program → IsRunText bytes text report.status × IsRunStatus report.status
-run_written bytes text symbols program journal report r e reads =
+pub run_written : (bytes text : List ℕ) (tables : Tables) (program : Program) (journal : List Entry) (report : Report) → RunsAs steps program journal report
+    → text ≡ journal_text tables.symbols tables.literals journal ++ report_text tables.symbols tables.literals report → Reads bytes tables program → IsRunText bytes text report.status × IsRunStatus report.status
+run_written bytes text tables program journal report r e reads =
     let which : report.status ≡ status_of r.last.threads = ap (λ (x : Report). x.status) r.reported in (
       (record {
         program = program;
-        symbols = symbols;
+        tables = tables;
         reads = reads;
         journal = journal;
         last = r.last;
         replays = r.replays;
         over = r.over;
-        written = e ∙ ap (λ x. journal_text symbols journal ++ report_text symbols x) r.reported;
+        written = e ∙ ap (λ x. journal_text tables.symbols tables.literals journal ++ report_text tables.symbols tables.literals x) r.reported;
         which = which;
       }),
       subst (λ n. IsRunStatus n) (sym which) (run_status r.last.threads),

@@ -2,7 +2,11 @@
 use Rattle.std.proofs.Common.{◌≡◌, ℕ, ◌<◌, ◌≤◌, inl, inr, List, [], ◌∷◌, ◌++◌, Bool, true, false, Option, Some, None, ◌==◌, length, length-append, refl, ap, sym, subst, ◌∙◌, arith}
 use Rattle.std.specs.Io.KnownBytes.{Appends, Keeps}
 use Rattle.lisp_edge.specs.Faults.{Rose}
-use Rattle.lisp_reader.specs.Reading.{Reads, IsRefused, too_long, in_reading, in_place, ReadOrRefused, longest}
+use Rattle.lisp_reader.specs.Reading.{too_long, not_utf8, in_reading, OneReading, ReadOrRefused, longest}
+use Rattle.lisp_reader.specs.Tables.{Tables}
+use Rattle.lisp_forms.specs.Program.{IsRefused as IsRefusedForms}
+use Rattle.lisp_session.specs.Programs.{Reads, IsRefused, as_text, as_data, first_tables}
+use Rattle.lisp_program.specs.Program.{Program}
 use Rattle.lisp_journal.specs.Refusal.{words_line}
 use Rattle.lisp_session.specs.Headline.{are_accepted, IsWhole, IsRunText, IsRefusedText, IsAnswer, of_a_run, of_a_refusal, of_words, WroteFront, IsRunStatus, CausesRun, CausesRefusal, CausesRefusedWords}
 use Rattle.lisp_session.specs.Answer.{IsRead, IsRefusalLine, FailsWriting, WroteRun, WroteRefusal, IsTextFor, run_text, refusal_text, WroteSome, Wrote, EndsAs, number_of}
@@ -47,22 +51,44 @@ is_whole (Some all) (Some rest) bytes r short =
 longer : (bytes rest all : List ℕ) → all ≡ bytes ++ rest → longest < length bytes → longest < length all
 longer bytes rest all e h = omega (arith, length-append bytes rest, ap length e)
 
+-- bytes behind which nothing is left are all
+whole_refused : (all rest bytes : List ℕ) (number place : ℕ) → all ≡ bytes ++ rest → rest ≡ [] → IsRefused bytes number place
+    → IsRefused all number place
+whole_refused all rest bytes number place e none refused =
+    subst (λ t. IsRefused t number place) (sym (e ∙ ap (λ t. bytes ++ t) none ∙ append-nil bytes)) refused
+
+-- no bytes are both a program and refused
+never_both : OneReading → ReadOrRefused → (bytes : List ℕ) (tables : Tables) (program : Program) (number place : ℕ) → Reads bytes tables program
+    → IsRefused bytes number place → ⊥
+never_both one never bytes tables program number place r (as_text tables' refused) =
+    never bytes first_tables tables tables' r.read number place r.reads refused
+never_both one never bytes tables program number place r (as_data tables' read reads found) =
+    let same = one bytes first_tables tables tables' r.read read r.reads reads in
+    let found' : IsRefusedForms tables.symbols r.read number place =
+    subst (λ d. IsRefusedForms tables.symbols d number place) (sym same.1)
+    (subst (λ (t : Tables). IsRefusedForms t.symbols read number place) (sym same.0) found) in
+    let none : None ≡ Some (record { number = number; place = place }) = sym r.expands.accepted ∙ found' in
+    cc
+
 -- why the bytes are refused is why all that was left is
 is_refused : (left left' : Option (List ℕ)) (bytes : List ℕ) (number place : ℕ) → IsRead longest left left' bytes
     → IsRefused bytes number place → IsRefusedText left number place
 is_refused None left' bytes number place r refused = tt
 is_refused (Some all) None bytes number place r refused = absurd r
-is_refused (Some all) (Some rest) bytes number place r (too_long long n p) = too_long (longer bytes rest all r.0 long) n p
-is_refused (Some all) (Some rest) bytes number place r (in_reading fault short f n p) =
-    subst (λ t. IsRefused t number place) (sym (r.0 ∙ ap (λ t. bytes ++ t) (r.1 short) ∙ append-nil bytes)) (in_reading fault short f n p)
-is_refused (Some all) (Some rest) bytes number place r (in_place data' holds found) =
-    subst (λ t. IsRefused t number place) (sym (r.0 ∙ ap (λ t. bytes ++ t) (r.1 holds.short) ∙ append-nil bytes)) (in_place data' holds found)
+is_refused (Some all) (Some rest) bytes number place r (as_text tables (too_long long n p same)) =
+    as_text tables (too_long (longer bytes rest all r.0 long) n p same)
+is_refused (Some all) (Some rest) bytes number place r (as_text tables (not_utf8 short broken n p same)) =
+    whole_refused all rest bytes number place r.0 (r.1 short) (as_text tables (not_utf8 short broken n p same))
+is_refused (Some all) (Some rest) bytes number place r (as_text tables (in_reading text found)) =
+    whole_refused all rest bytes number place r.0 (r.1 text.short) (as_text tables (in_reading text found))
+is_refused (Some all) (Some rest) bytes number place r (as_data tables read reads found) =
+    whole_refused all rest bytes number place r.0 (r.1 reads.text.short) (as_data tables read reads found)
 
 -- how answering what was read ends
 pub ends : (left left' : Option (List ℕ)) (reads reads' : ℕ) (held held' : Option (List ℕ)) (writes writes' : ℕ) (bytes : List ℕ) (outcome : Outcome)
     → IsRead longest left left' bytes → Wrote bytes held held' writes writes' outcome → EndsAs true left left' reads reads' held held' writes writes' outcome
 ends left left' reads reads' held held' writes writes' bytes (Ran status) r w =
-    (refl, (record { bytes = bytes; source = is_whole left left' bytes r w.run.reads.holds.short; text = w.text; run = w.run; sink = w.sink }), w.ended)
+    (refl, (record { bytes = bytes; source = is_whole left left' bytes r w.run.reads.reads.text.short; text = w.text; run = w.run; sink = w.sink }), w.ended)
 ends left left' reads reads' held held' writes writes' bytes RefusedWords r w = absurd w
 ends left left' reads reads' held held' writes writes' bytes Refused r w = (
   refl,
@@ -78,7 +104,7 @@ ends left left' reads reads' held held' writes writes' bytes WriteFault r w =
     (w.rose, (record { text = w.text; answer = answer_by w.text w.answer; count = w.count; sink = w.sink }))
   where
     answer_by : (text : List ℕ) → IsTextFor bytes text → IsAnswer true left left' text
-    answer_by text (run_text status run) = of_a_run bytes status refl (is_whole left left' bytes r run.reads.holds.short) run
+    answer_by text (run_text status run) = of_a_run bytes status refl (is_whole left left' bytes r run.reads.reads.text.short) run
     answer_by text (refusal_text line) =
         subst (λ t. IsAnswer true left left' t) (sym line.line)
         (of_a_refusal line.number line.place refl (is_refused left left' bytes line.number line.place r line.refused))
@@ -99,32 +125,32 @@ both : (b : Bool) → b ≡ true → b ≡ false → ⊥
 both b t f = cc
 
 -- a program that the source tells is run where neither end fails
-pub completes : ReadOrRefused → (accepted : Bool) (left left' : Option (List ℕ)) (reads reads' : ℕ) (held held' : Option (List ℕ)) (writes writes' : ℕ) (outcome : Outcome)
+pub completes : OneReading → ReadOrRefused → (accepted : Bool) (left left' : Option (List ℕ)) (reads reads' : ℕ) (held held' : Option (List ℕ)) (writes writes' : ℕ) (outcome : Outcome)
     → EndsAs accepted left left' reads reads' held held' writes writes' outcome → CausesRun accepted left reads reads' writes writes' (number_of outcome)
-completes never accepted left left' reads reads' held held' writes writes' (Ran status) h = λ bytes symbols program a e read no_read no_write. inl h.2
-completes never accepted left left' reads reads' held held' writes writes' RefusedWords h = λ bytes symbols program a e read no_read no_write. absurd (both accepted a h.0)
-completes never accepted left left' reads reads' held held' writes writes' Refused h = λ bytes symbols program a e read no_read no_write.
-    let refused : IsRefusedText (Some bytes) h.1.number h.1.place = rw e at h.1.source in absurd (never bytes symbols program h.1.number h.1.place read refused)
-completes never accepted left left' reads reads' held held' writes writes' ReadFault h = λ bytes symbols program a e read no_read no_write. absurd (no_read h.1)
-completes never accepted left left' reads reads' held held' writes writes' WriteFault h = λ bytes symbols program a e read no_read no_write. absurd (no_write h.0)
-completes never accepted left left' reads reads' held held' writes writes' Memory h = λ bytes symbols program a e read no_read no_write. inr refl
+completes one never accepted left left' reads reads' held held' writes writes' (Ran status) h = λ bytes tables program a e read no_read no_write. inl h.2
+completes one never accepted left left' reads reads' held held' writes writes' RefusedWords h = λ bytes tables program a e read no_read no_write. absurd (both accepted a h.0)
+completes one never accepted left left' reads reads' held held' writes writes' Refused h = λ bytes tables program a e read no_read no_write.
+    let refused : IsRefusedText (Some bytes) h.1.number h.1.place = rw e at h.1.source in absurd (never_both one never bytes tables program h.1.number h.1.place read refused)
+completes one never accepted left left' reads reads' held held' writes writes' ReadFault h = λ bytes tables program a e read no_read no_write. absurd (no_read h.1)
+completes one never accepted left left' reads reads' held held' writes writes' WriteFault h = λ bytes tables program a e read no_read no_write. absurd (no_write h.0)
+completes one never accepted left left' reads reads' held held' writes writes' Memory h = λ bytes tables program a e read no_read no_write. inr refl
 
 whole_told : (all bytes : List ℕ) (left' : Option (List ℕ)) → IsWhole (Some all) left' bytes → bytes ≡ all
 whole_told all bytes None h = absurd h
 whole_told all bytes (Some rest) h = h.0
 
 -- another text that the source tells is refused where neither end fails
-pub refuses : ReadOrRefused → (accepted : Bool) (left left' : Option (List ℕ)) (reads reads' : ℕ) (held held' : Option (List ℕ)) (writes writes' : ℕ) (outcome : Outcome)
+pub refuses : OneReading → ReadOrRefused → (accepted : Bool) (left left' : Option (List ℕ)) (reads reads' : ℕ) (held held' : Option (List ℕ)) (writes writes' : ℕ) (outcome : Outcome)
     → EndsAs accepted left left' reads reads' held held' writes writes' outcome → CausesRefusal accepted left reads reads' writes writes' (number_of outcome)
-refuses never accepted left left' reads reads' held held' writes writes' (Ran status) h = λ bytes number place a e refused no_read no_write.
+refuses one never accepted left left' reads reads' held held' writes writes' (Ran status) h = λ bytes number place a e refused no_read no_write.
     let whole : IsWhole (Some bytes) left' h.1.bytes = rw e at h.1.source in
-    let read : Reads bytes h.1.run.symbols h.1.run.program = subst (λ t. Reads t h.1.run.symbols h.1.run.program) (whole_told bytes h.1.bytes left' whole) h.1.run.reads in
-    absurd (never bytes h.1.run.symbols h.1.run.program number place read refused)
-refuses never accepted left left' reads reads' held held' writes writes' RefusedWords h = λ bytes number place a e refused no_read no_write. absurd (both accepted a h.0)
-refuses never accepted left left' reads reads' held held' writes writes' Refused h = λ bytes number place a e refused no_read no_write. inl refl
-refuses never accepted left left' reads reads' held held' writes writes' ReadFault h = λ bytes number place a e refused no_read no_write. absurd (no_read h.1)
-refuses never accepted left left' reads reads' held held' writes writes' WriteFault h = λ bytes number place a e refused no_read no_write. absurd (no_write h.0)
-refuses never accepted left left' reads reads' held held' writes writes' Memory h = λ bytes number place a e refused no_read no_write. inr refl
+    let read : Reads bytes h.1.run.tables h.1.run.program = subst (λ t. Reads t h.1.run.tables h.1.run.program) (whole_told bytes h.1.bytes left' whole) h.1.run.reads in
+    absurd (never_both one never bytes h.1.run.tables h.1.run.program number place read refused)
+refuses one never accepted left left' reads reads' held held' writes writes' RefusedWords h = λ bytes number place a e refused no_read no_write. absurd (both accepted a h.0)
+refuses one never accepted left left' reads reads' held held' writes writes' Refused h = λ bytes number place a e refused no_read no_write. inl refl
+refuses one never accepted left left' reads reads' held held' writes writes' ReadFault h = λ bytes number place a e refused no_read no_write. absurd (no_read h.1)
+refuses one never accepted left left' reads reads' held held' writes writes' WriteFault h = λ bytes number place a e refused no_read no_write. absurd (no_write h.0)
+refuses one never accepted left left' reads reads' held held' writes writes' Memory h = λ bytes number place a e refused no_read no_write. inr refl
 
 -- words that are not accepted are refused where the sink does not fail
 pub refuses_words : (accepted : Bool) (left left' : Option (List ℕ)) (reads reads' : ℕ) (held held' : Option (List ℕ)) (writes writes' : ℕ) (outcome : Outcome)

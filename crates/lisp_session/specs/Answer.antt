@@ -3,7 +3,7 @@ use Rattle.std.specs.Prelude.{◌≡◌, ℕ, ◌≤◌, List, [], ◌++◌, Boo
 use Rattle.std.specs.Io.KnownBytes.{Appends, Keeps}
 use Rattle.std.specs.String.{string_bytes}
 use Rattle.lisp_edge.specs.Faults.{Rose}
-use Rattle.lisp_reader.specs.Reading.{IsRefused}
+use Rattle.lisp_session.specs.Programs.{IsRefused}
 use Rattle.lisp_journal.specs.Refusal.{refusal_line, words_line}
 use Rattle.lisp_session.specs.Headline.{IsRunText, Headline, RefusedProgram, WroteFront, IsRunStatus}
 use Rattle.lisp_session.specs.declared.input.ReadFailure.{ReadFailure}

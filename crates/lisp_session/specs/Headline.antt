@@ -7,7 +7,8 @@ use Rattle.world_semantics.specs.declared.entry.Entry.{Entry}
 use Rattle.run_semantics.specs.Replay.{Configuration, Replays}
 use Rattle.run_semantics.specs.Over.{IsOver}
 use Rattle.run_semantics.specs.Report.{report_of, status_of}
-use Rattle.lisp_reader.specs.Reading.{Reads, IsRefused}
+use Rattle.lisp_reader.specs.Tables.{Tables}
+use Rattle.lisp_session.specs.Programs.{Reads, IsRefused}
 use Rattle.lisp_journal.specs.Journal.{journal_text}
 use Rattle.lisp_journal.specs.Report.{report_text}
 use Rattle.lisp_journal.specs.Refusal.{refusal_line, words_line}
@@ -29,17 +30,17 @@ IsWhole (Some all) (Some rest) bytes = (bytes ≡ all) × (rest ≡ [])
 
 -- The bytes are an accepted program, and it has a run that is over, with this text and this status: a journal that
 -- replays as a run of the interleaving semantics, and the report of its last state, in which no thread can step. Both
--- are written with the names of the program's symbols.
+-- are written with the names of the program's symbols and the texts of its string literals.
 -- The status is 0 exactly where every thread has ended there, else 3.
 pub record IsRunText (bytes text : List ℕ) (status : ℕ) : Type 0 where
   pub program : Program
-  pub symbols : List (List ℕ)
-  pub reads : Reads bytes symbols program
+  pub tables : Tables
+  pub reads : Reads bytes tables program
   pub journal : List Entry
   pub last : Configuration
   pub replays : Replays steps program journal last
   pub over : IsOver steps last
-  pub written : text ≡ journal_text symbols journal ++ report_text symbols (report_of steps last)
+  pub written : text ≡ journal_text tables.symbols tables.literals journal ++ report_text tables.symbols tables.literals (report_of steps last)
   pub which : status ≡ status_of last.threads
 
 -- The headline: what the source had left was an accepted program, and the sink gained the whole text of a run of it.
@@ -89,7 +90,7 @@ IsStatus status = (status ≡ 0) ⊎ (status ≡ 3) ⊎ (status ≡ 2) ⊎ (stat
 -- Where the words are accepted, the source tells a program and neither end fails, the run ends, or memory runs out.
 abbrev pub CausesRun : Bool → Option (List ℕ) → ℕ → ℕ → ℕ → ℕ → ℕ → Type 0
 CausesRun accepted left reads reads' writes writes' status =
-    (bytes : List ℕ) (symbols : List (List ℕ)) (program : Program) → accepted ≡ true → left ≡ Some bytes → Reads bytes symbols program
+    (bytes : List ℕ) (tables : Tables) (program : Program) → accepted ≡ true → left ≡ Some bytes → Reads bytes tables program
     → ¬ Rose reads reads' → ¬ Rose writes writes' → IsRunStatus status ⊎ (status ≡ 7)
 
 -- Where the words are accepted, the source tells a text that is refused and neither end fails, that is said, or memory

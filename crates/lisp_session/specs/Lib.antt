@@ -1,2 +1,4 @@
+pub mod Programs
+pub mod Reading
 pub mod Headline
 pub mod Answer

@@ -1,15 +1,23 @@
-ghost use Rattle.std.specs.Prelude.{ℕ, List, IfOk};
-ghost use Rattle.lisp_reader.specs.Reading.{IsRefusal, Reads, program_with};
+ghost use Rattle.std.specs.Prelude.{◌≡◌, ◌++◌, ℕ, List, IfOk};
+ghost use Rattle.std.specs.String.{string_bytes};
+ghost use Rattle.lisp_forms.specs.Contexts.{program_with};
+ghost use Rattle.lisp_journal.specs.Journal.{journal_text};
+ghost use Rattle.lisp_journal.specs.Report.{report_text};
+ghost use Rattle.lisp_reader.specs.Tables.{tables_of};
 ghost use Rattle.lisp_session.specs.Answer.{Answers};
+ghost use Rattle.lisp_session.specs.Programs.{Reads};
+ghost use Rattle.lisp_session.specs.Reading.{IsRefusal};
 
+use crate::program::{Reading, Refusal, read};
 use form_evaluator::run::{Finished, run_program};
 use lisp_base::memory::Memory;
 use lisp_journal::journal::write_journal;
+use lisp_journal::names::Names;
 use lisp_journal::refusal::write_refusal;
 use lisp_journal::report::write_report;
-use lisp_reader::reader::{Reading, read_forms};
-use lisp_reader::refusal::ReadRefusal;
 use std::alloc::Global;
+use symbol_table::symbols::Symbols;
+use symbol_table::texts::Texts;
 
 /// The points that a thread may take.
 const STEPS: u32 = 100_000;
@@ -23,26 +31,46 @@ pub(crate) enum Answer {
     OfRefusal(String),
 }
 
+/// Journal and report of a run, with these symbols and string literals.
+fn journal_and_report(
+    alloc: Global,
+    symbols: &Symbols,
+    texts: &Texts,
+    finished: &Finished,
+) -> Result<String, Memory>
+    ensures { IfOk result (λ text. string_bytes text ≡ journal_text symbols.now texts.now finished.now.entries ++ report_text symbols.now texts.now finished.now.report) }
+{
+    let names = Names { symbols, texts };
+    let mut text = write_journal(alloc, &names, finished.entries.as_slice())?;
+    let report = write_report(alloc, &names, &finished.report)?;
+    text.push_str(report.as_str())?;
+    Ok(text)
+}
+
 /// Runs a program, and writes its journal and report.
 fn run_text(alloc: Global, reading: &Reading) -> Result<Answer, Memory>
-    ensures { IfOk result (λ answer. (bytes : List ℕ) → Reads bytes reading.now.symbols (program_with reading.now.program reading.now.specials.items) → Answers bytes answer) }
+    ensures { IfOk result (λ answer. (bytes : List ℕ) → Reads bytes (tables_of reading.now.symbols reading.now.texts) (program_with reading.now.expansion.program reading.now.expansion.specials.items) → Answers bytes answer) }
 {
-    let finished = run_program(alloc, &reading.program, reading.specials.as_slice(), STEPS)?;
-    let mut text = write_journal(alloc, &reading.symbols, finished.entries.as_slice())?;
-    let report = write_report(alloc, &reading.symbols, &finished.report)?;
-    text.push_str(report.as_str())?;
+    let expansion = &reading.expansion;
+    let finished = run_program(
+        alloc,
+        &expansion.program,
+        expansion.specials.as_slice(),
+        STEPS,
+    )?;
+    let text = journal_and_report(alloc, &reading.symbols, &reading.texts, &finished)?;
     Ok(Answer::OfRun(text, finished.report.status))
 }
 
-/// The line for a text that is not read.
-fn refusal_text(alloc: Global, refusal: &ReadRefusal) -> Result<Answer, Memory>
+/// The line for bytes that are no program.
+fn refusal_text(alloc: Global, refusal: &Refusal) -> Result<Answer, Memory>
     ensures { IfOk result (λ answer. (bytes : List ℕ) → IsRefusal bytes refusal.now → Answers bytes answer) }
 {
     match refusal {
-        ReadRefusal::Refused { number, place } => Ok(Answer::OfRefusal(write_refusal(
+        Refusal::Refused { number, place } => Ok(Answer::OfRefusal(write_refusal(
             alloc, *number, *place,
         )?)),
-        ReadRefusal::Memory => Err(Memory),
+        Refusal::Memory => Err(Memory),
     }
 }
 
@@ -50,8 +78,8 @@ fn refusal_text(alloc: Global, refusal: &ReadRefusal) -> Result<Answer, Memory>
 pub(crate) fn answer_to(alloc: Global, bytes: &[u8]) -> Result<Answer, Memory>
     ensures { IfOk result (Answers bytes.now) }
 {
-    let read = read_forms(alloc, bytes);
-    match &read {
+    let program = read(alloc, bytes);
+    match &program {
         Ok(reading) => Ok(run_text(alloc, reading)?),
         Err(refusal) => Ok(refusal_text(alloc, refusal)?),
     }

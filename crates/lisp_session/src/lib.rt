@@ -4,6 +4,7 @@
 mod answer;
 mod input;
 mod output;
+mod program;
 #[cfg(test)]
 mod tests;
 pub mod top;

@@ -87,6 +87,37 @@ status 0
 end
 ";
 
+/// A string is written with quotes, and in what is printed these have a `\\` before them.
+const PRINTED_STRING: &[u8] = b"sbcl-journal 1
+1 t0 2 out \"\\n\\\"a\\\\\\\"b\\\" \" -> ok
+2 t0 3 finish returned \"a\\\"b\" -> ok
+report 1
+thread 0 \"main thread\" returned \"a\\\"b\" points 3
+status 0
+end
+";
+
+/// A variable is special from the start of the program, and unbound until its `defvar` is done.
+const UNBOUND: &[u8] = b"sbcl-journal 1
+1 t0 1 get *X* -> unbound
+2 t0 2 finish aborted #<UNBOUND-VARIABLE> -> ok
+report 1
+thread 0 \"main thread\" aborted #<UNBOUND-VARIABLE> points 2
+global *X* unbound
+status 0
+end
+";
+
+/// Sums of several arguments take a point for each pair, from the left.
+const SEVERAL_SUMS: &[u8] = b"sbcl-journal 1
+1 t0 6 out \"\\n6 \" -> ok
+2 t0 17 finish returned 1.500000 -> ok
+report 1
+thread 0 \"main thread\" returned 1.500000 points 17
+status 0
+end
+";
+
 /// The points end in a body, with the `let` open.
 const OUT_OF_POINTS_IN_A_LET: &[u8] = b"sbcl-journal 1
 1 t0 1 boundp *X* -> NIL
@@ -156,6 +187,9 @@ fn programs_run(rt: HostRuntime) -> Result<(), Fail> {
             b"(defvar *ab* 1) (setq *Ab* 2) (defvar *c* (print *AB*))",
             GLOBAL_SETQ,
         ),
+        (b"(print \"a\\\"b\") ; the end", PRINTED_STRING),
+        (b"*x* (DEFVAR *x* 'a)", UNBOUND),
+        (b"(print (+ 1 2 3)) (+) (+ 4) (let () :a) 1.5", SEVERAL_SUMS),
     ] {
         let (status, held) = run(rt.alloc(), text, &[], &[])?;
         assert_eq!(rt; status, 0);
@@ -218,13 +252,19 @@ fn texts_are_refused(rt: HostRuntime) -> Result<(), Fail> {
     for (text, line) in [
         (
             b"(print x)".as_slice(),
-            b"refused 10 NotBuilt at 7\n".as_slice(),
+            b"refused 13 UnknownVariable at 7\n".as_slice(),
         ),
-        (b"(+ 1)", b"refused 10 NotBuilt at 0\n"),
         (b"1 )", b"refused 3 UnmatchedClose at 2\n"),
-        (b"(print (+ 1", b"refused 2 EndInside at 7\n"),
-        (b"(print *x*)", b"refused 13 UnknownVariable at 7\n"),
-        (b"(print *x*) (defvar *x* 1)", b"refused 10 NotBuilt at 7\n"),
+        (b"(print \"ab", b"refused 2 EndInside at 7\n"),
+        (b"4611686018427387904", b"refused 5 NumberTooLarge at 0\n"),
+        (b"\xff", b"refused 1 NotUtf8 at 0\n"),
+        (b"(if 1 2 3)", b"refused 10 NotBuilt at 0\n"),
+        (b"(if 1 2 3) (foo)", b"refused 11 UnknownOperator at 11\n"),
+        (b"(print)", b"refused 12 BadForm at 0\n"),
+        (
+            b"(defvar *x* 1) (defvar *x* 2)",
+            b"refused 18 DefinedTwice at 15\n",
+        ),
     ] {
         let (status, held) = run(alloc, text, &[], &[])?;
         assert_eq!(rt; status, 4);

@@ -13,7 +13,7 @@ use lisp_edge::gate::Gate;
 use lisp_edge::sink::Sink;
 use lisp_edge::source::Source;
 use lisp_journal::refusal::refused_words;
-use lisp_reader::reader::read_or_refused;
+use lisp_reader::reader::{one_reading, read_or_refused};
 use std::alloc::Global;
 
 /// How a top call ends.
@@ -150,7 +150,8 @@ pub fn run_one<S: Source, K: Sink, C: Clock>(
     ensures source_later { S.faults source.old ≤ S.faults source.new }
     ensures sink_later { K.faults sink.old ≤ K.faults sink.new }
 {
-    // The law that no text is both read and refused, on which `complete` and `refuses` rest.
+    // The laws that no text is both read and refused, and none is read in two ways, on which `complete` and `refuses` rest.
+    one_reading();
     read_or_refused();
     status_of(answer_call(alloc, words, source, sink))
 }

@@ -5,4 +5,4 @@ use Rattle.lisp_journal.specs.Report.{global_text}
 use Rattle.lisp_journal.proofs.report.push_globals.Given as goal
 
 abbrev pub invariant-loop-global : goal.invariant-loop-global
-invariant-loop-global l = string_bytes l.text ≡ string_bytes l.fn.text ++ flat_map (global_text l.symbols) (take l.global-index l.globals)
+invariant-loop-global l = string_bytes l.text ≡ string_bytes l.fn.text ++ flat_map (global_text l.names.symbols.now l.names.texts.now) (take l.global-index l.globals)

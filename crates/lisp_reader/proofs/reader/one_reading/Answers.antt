@@ -1,4 +1,4 @@
-use Rattle.lisp_reader.proofs.Readings.{one_reading}
+use Rattle.lisp_reader.proofs.Laws.{one_reading}
 use Rattle.lisp_reader.proofs.reader.one_reading.Goals as goal
 
 pub returns : goal.returns

@@ -1,0 +1,11 @@
+pub mod Preorders
+pub mod Expands
+pub mod Repeated
+pub mod Chained
+pub mod Bound
+pub mod Odd
+pub mod Trees
+pub mod Firsts
+pub mod Lets
+pub mod Tops
+pub mod Pushed

@@ -1,0 +1,7 @@
+pub mod Operators
+pub mod Shapes
+pub mod Contexts
+pub mod Expansion
+pub mod Program
+pub mod Flat
+pub mod Sizes

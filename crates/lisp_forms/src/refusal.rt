@@ -1,0 +1,40 @@
+ghost use Rattle.std.specs.Prelude.{◌≡◌};
+ghost use Rattle.lisp_forms.specs.declared.refusal.ExpandRefusal.TheVariants.{Memory};
+
+use lisp_base::id::Place;
+use lisp_base::memory;
+
+/// A form that is not built yet.
+pub const NOT_BUILT: u32 = 10;
+
+/// The head of a list is no operator and no function.
+pub const UNKNOWN_OPERATOR: u32 = 11;
+
+/// A form does not have its shape, or stands where it may not.
+pub const BAD_FORM: u32 = 12;
+
+/// A symbol is no variable.
+pub const UNKNOWN_VARIABLE: u32 = 13;
+
+/// There are more arguments, variables or definitions than there may be.
+pub const TOO_MANY: u32 = 17;
+
+/// A name is defined or bound twice.
+pub const DEFINED_TWICE: u32 = 18;
+
+/// Why data are no program.
+#[derive(Clone, Copy, Debug, PartialEq, Eq)]
+pub enum ExpandRefusal {
+    /// The number of the refusal, and where it comes.
+    Refused { number: u32, place: Place },
+    /// Memory ran out.
+    Memory,
+}
+
+impl From<memory::Memory> for ExpandRefusal {
+    ghost from_gives = { λ _ e. e ≡ Memory };
+
+    fn from(_error: memory::Memory) -> Self {
+        ExpandRefusal::Memory
+    }
+}

@@ -1,0 +1,76 @@
+-- How a text of the whole grammar falls into parts: parentheses, quotes, string literals and tokens.
+use Rattle.std.specs.Prelude.{ℕ, suc, List, [], ◌∷◌, ◌++◌, Bool, true, false, ◌&&◌, ◌||◌, ◌==◌, if◌then◌else◌}
+
+-- space, tab, newline, carriage return and form feed separate
+abbrev pub is_separator : ℕ → Bool
+is_separator b = (b == 32) || (b == 9) || (b == 10) || (b == 13) || (b == 12)
+
+-- A part, with the place of its first byte. A literal has its characters, without the `\` before one; an open literal has no end.
+pub data Part : Type 0 where
+  Opens : (place : ℕ) → Part
+  Closes : (place : ℕ) → Part
+  -- `'`, or `#'`
+  Quotes : (function : Bool) (place : ℕ) → Part
+  Literal : (place : ℕ) (characters : List ℕ) → Part
+  OpenLiteral : (place : ℕ) → Part
+  Token' : (place : ℕ) (letters : List ℕ) → Part
+
+-- Where a text goes on: between parts, within a token, right behind the `#` of a `#'`, in a comment, in a literal that began at a
+-- place with these characters so far, or there behind a `\`.
+pub data Where' : Type 0 where
+  Between : Where'
+  Within : Where'
+  Sharp : Where'
+  Comment : Where'
+  Inside : (start : ℕ) (so_far : List ℕ) → Where'
+  Escaped : (start : ℕ) (so_far : List ℕ) → Where'
+
+-- the first byte is `'`
+abbrev pub begins_with_quote : List ℕ → Bool
+begins_with_quote [] = false
+begins_with_quote (b ∷ bs) = b == 39
+
+-- one more letter, in front of the token that begins right behind it, or else a token of its own
+abbrev pub with_token_letter : ℕ → ℕ → List Part → List Part
+with_token_letter p b [] = Token' p (b ∷ []) ∷ []
+with_token_letter p b (Token' q bs ∷ ps) =
+    if q == suc p then Token' p (b ∷ bs) ∷ ps else Token' p (b ∷ []) ∷ (Token' q bs ∷ ps)
+with_token_letter p b (other ∷ ps) = Token' p (b ∷ []) ∷ (other ∷ ps)
+
+-- the parts of a text that goes on so, whose first byte is at place p
+abbrev pub parts_from : Where' → ℕ → List ℕ → List Part
+parts_from (Inside start so_far) p [] = OpenLiteral start ∷ []
+parts_from (Escaped start so_far) p [] = OpenLiteral start ∷ []
+parts_from _ p [] = []
+-- a comment goes to the end of its line
+parts_from Comment p (b ∷ bs) = if b == 10 then parts_from Between (suc p) bs else parts_from Comment (suc p) bs
+-- a literal goes to the next `"`; a `\` takes the next character as it is
+parts_from (Inside start so_far) p (b ∷ bs) =
+    if b == 34 then Literal start so_far ∷ parts_from Between (suc p) bs
+    else if b == 92 then parts_from (Escaped start so_far) (suc p) bs
+    else parts_from (Inside start (so_far ++ b ∷ [])) (suc p) bs
+parts_from (Escaped start so_far) p (b ∷ bs) = parts_from (Inside start (so_far ++ b ∷ [])) (suc p) bs
+parts_from Sharp p (b ∷ bs) = parts_from Between (suc p) bs
+-- elsewhere each byte is a separator, begins a comment, a literal, a list or a quote, ends a list, or belongs to a token; a `#` in
+-- front of `'` begins a quote where no token goes on
+parts_from Between p (b ∷ bs) =
+    if is_separator b then parts_from Between (suc p) bs
+    else if b == 59 then parts_from Comment (suc p) bs
+    else if b == 34 then parts_from (Inside p []) (suc p) bs
+    else if b == 40 then Opens p ∷ parts_from Between (suc p) bs
+    else if b == 41 then Closes p ∷ parts_from Between (suc p) bs
+    else if b == 39 then Quotes false p ∷ parts_from Between (suc p) bs
+    else if (b == 35) && begins_with_quote bs then Quotes true p ∷ parts_from Sharp (suc p) bs
+    else with_token_letter p b (parts_from Within (suc p) bs)
+parts_from Within p (b ∷ bs) =
+    if is_separator b then parts_from Between (suc p) bs
+    else if b == 59 then parts_from Comment (suc p) bs
+    else if b == 34 then parts_from (Inside p []) (suc p) bs
+    else if b == 40 then Opens p ∷ parts_from Between (suc p) bs
+    else if b == 41 then Closes p ∷ parts_from Between (suc p) bs
+    else if b == 39 then Quotes false p ∷ parts_from Between (suc p) bs
+    else with_token_letter p b (parts_from Within (suc p) bs)
+
+-- the parts of a text
+abbrev pub parts_of : List ℕ → List Part
+parts_of bytes = parts_from Between 0 bytes

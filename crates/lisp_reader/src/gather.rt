@@ -1,0 +1,306 @@
+ghost use Rattle.std.specs.Prelude.{◌≡◌, ◌<◌, ◌^◌, ◌∷◌, ◌++◌, [], ℕ, List, IfOk, IsTrue, OnOk, drop, length, map, string_bytes, take};
+ghost use Rattle.std.specs.Char.{is_ascii};
+ghost use Rattle.std.specs.List.{list_all};
+ghost use Rattle.std.specs.Result.{IfErr};
+ghost use Rattle.std.specs.Str.{IsUtf8};
+ghost use Rattle.lisp_reader.specs.Gathering.{at_end, gathered as gathered_of};
+ghost use Rattle.lisp_reader.specs.Marking.{IsEndRefusal, IsInterned, IsLeaf, IsNoLeaf, IsNotInterned, IsRefusalOf, RefusedPart, TookPart, faultless, mark_of};
+ghost use Rattle.lisp_reader.specs.Meanings;
+ghost use Rattle.lisp_reader.specs.Parts.{Opens as OpensPart, Closes, Quotes, Literal, Token', parts_of};
+ghost use Rattle.lisp_reader.specs.Scanning.{part_of};
+ghost use Rattle.lisp_reader.specs.Tables.{Tables, tables_of};
+
+use crate::datum::Leaf;
+use crate::meaning::{Meaning, letters_from, meaning_of};
+use crate::opens::{Opening, Opens};
+use crate::refusal::{
+    BAD_TOKEN, END_INSIDE, NUMBER_TOO_LARGE, ReadRefusal, TOO_DEEP, TOO_MANY_SYMBOLS,
+    TOO_MANY_TEXTS, UNMATCHED_CLOSE,
+};
+use crate::scan::{PartKind, Scanned, scan};
+use lisp_base::id::{Micros, Place, StringId, SymbolId};
+use lisp_base::memory::Memory;
+use std::alloc::Global;
+use symbol_table::error::InternError;
+use symbol_table::symbols::Symbols;
+use symbol_table::texts::Texts;
+
+/// What a part of a text is, where symbols and literals have numbers.
+#[derive(Clone, Copy, Debug, PartialEq, Eq)]
+pub enum MarkKind {
+    /// A list opens.
+    Open,
+    /// A list closes.
+    Close,
+    /// A quote, with the symbol that it stands for.
+    Quote(SymbolId),
+    /// A leaf.
+    ALeaf(Leaf),
+}
+
+/// A part of a text, with the place of its first byte.
+#[derive(Clone, Copy, Debug, PartialEq, Eq)]
+pub struct Mark {
+    pub kind: MarkKind,
+    pub place: Place,
+}
+
+/// The symbol with a name that is used at a place.
+fn symbol(symbols: &mut Symbols, name: &str, place: Place) -> Result<SymbolId, ReadRefusal>
+    ensures interned { IfOk result (IsInterned symbols.old symbols.new name.now) }
+    ensures refused { IfErr result (IsNotInterned 8 place symbols.old symbols.new name.now) }
+{
+    match symbols.intern(name) {
+        Ok(id) => Ok(id),
+        Err(InternError::TooMany) => Err(ReadRefusal::at(TOO_MANY_SYMBOLS, place)),
+        Err(InternError::Memory) => Err(ReadRefusal::Memory),
+    }
+}
+
+/// The string literal with a text that is used at a place.
+fn text(texts: &mut Texts, characters: &str, place: Place) -> Result<StringId, ReadRefusal>
+    ensures interned { IfOk result (IsInterned texts.old texts.new characters.now) }
+    ensures refused { IfErr result (IsNotInterned 9 place texts.old texts.new characters.now) }
+{
+    match texts.intern(characters) {
+        Ok(id) => Ok(id),
+        Err(InternError::TooMany) => Err(ReadRefusal::at(TOO_MANY_TEXTS, place)),
+        Err(InternError::Memory) => Err(ReadRefusal::Memory),
+    }
+}
+
+/// Letters in upper case.
+fn upper(alloc: Global, letters: &[u8]) -> Result<String, Memory>
+    requires { IsTrue (list_all is_ascii letters.now) }
+    ensures { IfOk result (λ name. string_bytes name ≡ Meanings.upper letters.now) }
+{
+    let mut name = String::new(alloc);
+    for letter in letters {
+        name.push(char::from(letter.to_ascii_uppercase()))?;
+    }
+    Ok(name)
+}
+
+/// The symbol that these letters of a token name, in upper case.
+fn spelled(
+    alloc: Global,
+    letters: &[u8],
+    place: Place,
+    symbols: &mut Symbols,
+) -> Result<SymbolId, ReadRefusal>
+    requires { IsTrue (list_all is_ascii letters.now) }
+    ensures interned { IfOk result (IsInterned symbols.old symbols.new (Meanings.upper letters.now)) }
+    ensures refused { IfErr result (IsNotInterned 8 place symbols.old symbols.new (Meanings.upper letters.now)) }
+{
+    let name = upper(alloc, letters)?;
+    symbol(symbols, &name, place)
+}
+
+/// The leaf that a token is.
+fn token_leaf(
+    alloc: Global,
+    letters: &[u8],
+    place: Place,
+    symbols: &mut Symbols,
+) -> Result<Leaf, ReadRefusal>
+    ensures leaf { IfOk result (IsLeaf letters.now symbols.old symbols.new) }
+    ensures refused { IfErr result (IsNoLeaf letters.now place symbols.old symbols.new) }
+{
+    match meaning_of(letters) {
+        Meaning::Integer(number) => Ok(Leaf::Int(number)),
+        Meaning::Time(micros) => Ok(Leaf::Time(Micros(micros))),
+        Meaning::Symbol(start) => {
+            let name = letters_from(letters, start);
+            let id = spelled(alloc, name, place, symbols)?;
+            Ok(Leaf::Symbol(id))
+        }
+        Meaning::Keyword => {
+            let id = spelled(alloc, letters, place, symbols)?;
+            Ok(Leaf::Symbol(id))
+        }
+        Meaning::TooLarge => Err(ReadRefusal::at(NUMBER_TOO_LARGE, place)),
+        Meaning::Bad => Err(ReadRefusal::at(BAD_TOKEN, place)),
+    }
+}
+
+/// So many letters from a place on, or as many as there are.
+fn letters_at(text: &[u8], at: usize, count: usize) -> &[u8]
+    ensures { result.now ≡ take count (drop at text.now) }
+{
+    let rest = letters_from(text, at);
+    &rest[..count.min(rest.len())]
+}
+
+/// What has been gathered of a text: what is open, and the marks of its parts.
+#[derive(Debug, Drop)]
+struct Gatherer {
+    opens: Opens,
+    marks: Vec<Mark>,
+}
+
+impl Gatherer {
+    /// Nothing. It takes no memory.
+    fn new(alloc: Global) -> Self
+        ensures opens { result.opens ≡ [] }
+        ensures marks { result.marks.items ≡ [] }
+    {
+        Gatherer {
+            opens: Opens::new(alloc),
+            marks: Vec::new(alloc),
+        }
+    }
+
+    /// Puts a mark behind the others.
+    fn put(&mut self, kind: MarkKind, place: Place) -> Result<(), Memory>
+        ensures marks { OnOk result (self.new.marks.items ≡ self.old.marks.items ++ (record { kind = kind; place = place }) ∷ []) }
+        ensures opens { self.new.opens ≡ self.old.opens }
+    {
+        self.marks.push(Mark { kind, place })?;
+        Ok(())
+    }
+
+    /// Takes the parenthesis that opens a list.
+    fn take_open(&mut self, place: Place) -> Result<(), ReadRefusal>
+        ensures took { (t : Tables) → IfOk result (λ _. TookPart (OpensPart place) self.old.opens self.new.opens t t self.old.marks.items self.new.marks.items) }
+        ensures refused { (t : Tables) → IfErr result (RefusedPart (OpensPart place) self.old.opens t t) }
+    {
+        if self.opens.is_full() {
+            return Err(ReadRefusal::at(TOO_DEEP, place));
+        }
+        self.opens.push(Opening::List(place))?;
+        self.put(MarkKind::Open, place)?;
+        Ok(())
+    }
+
+    /// Takes the parenthesis that closes a list.
+    fn take_close(&mut self, place: Place) -> Result<(), ReadRefusal>
+        ensures took { (t : Tables) → IfOk result (λ _. TookPart (Closes place) self.old.opens self.new.opens t t self.old.marks.items self.new.marks.items) }
+        ensures refused { (t : Tables) → IfErr result (RefusedPart (Closes place) self.old.opens t t) }
+    {
+        if !self.opens.close() {
+            return Err(ReadRefusal::at(UNMATCHED_CLOSE, place));
+        }
+        self.opens.settle();
+        self.put(MarkKind::Close, place)?;
+        Ok(())
+    }
+
+    /// Takes a quote.
+    fn take_quote(
+        &mut self,
+        function: bool,
+        place: Place,
+        symbols: &mut Symbols,
+    ) -> Result<(), ReadRefusal>
+        ensures took { (literals : List (List ℕ)) → IfOk result (λ _. TookPart (Quotes function place) self.old.opens self.new.opens (tables_of symbols.old literals) (tables_of symbols.new literals) self.old.marks.items self.new.marks.items) }
+        ensures refused { (literals : List (List ℕ)) → IfErr result (RefusedPart (Quotes function place) self.old.opens (tables_of symbols.old literals) (tables_of symbols.new literals)) }
+    {
+        if self.opens.is_full() {
+            return Err(ReadRefusal::at(TOO_DEEP, place));
+        }
+        let name = if function { "FUNCTION" } else { "QUOTE" };
+        let id = symbol(symbols, name, place)?;
+        self.opens.push(Opening::Quote(place))?;
+        self.put(MarkKind::Quote(id), place)?;
+        Ok(())
+    }
+
+    /// Takes a string literal with these characters.
+    fn take_literal(
+        &mut self,
+        characters: &str,
+        place: Place,
+        texts: &mut Texts,
+    ) -> Result<(), ReadRefusal>
+        ensures took { (symbols : List (List ℕ)) → IfOk result (λ _. TookPart (Literal place characters.now) self.old.opens self.new.opens (tables_of symbols texts.old) (tables_of symbols texts.new) self.old.marks.items self.new.marks.items) }
+        ensures refused { (symbols : List (List ℕ)) → IfErr result (RefusedPart (Literal place characters.now) self.old.opens (tables_of symbols texts.old) (tables_of symbols texts.new)) }
+    {
+        let id = text(texts, characters, place)?;
+        self.opens.settle();
+        self.put(MarkKind::ALeaf(Leaf::Text(id)), place)?;
+        Ok(())
+    }
+
+    /// Takes a token with these letters.
+    fn take_token(
+        &mut self,
+        alloc: Global,
+        letters: &[u8],
+        place: Place,
+        symbols: &mut Symbols,
+    ) -> Result<(), ReadRefusal>
+        ensures took { (literals : List (List ℕ)) → IfOk result (λ _. TookPart (Token' place letters.now) self.old.opens self.new.opens (tables_of symbols.old literals) (tables_of symbols.new literals) self.old.marks.items self.new.marks.items) }
+        ensures refused { (literals : List (List ℕ)) → IfErr result (RefusedPart (Token' place letters.now) self.old.opens (tables_of symbols.old literals) (tables_of symbols.new literals)) }
+    {
+        let leaf = token_leaf(alloc, letters, place, symbols)?;
+        self.opens.settle();
+        self.put(MarkKind::ALeaf(leaf), place)?;
+        Ok(())
+    }
+
+    /// Takes the part of this kind that begins at a place of a text.
+    fn take(
+        &mut self,
+        alloc: Global,
+        text: &[u8],
+        at: usize,
+        kind: &PartKind,
+        symbols: &mut Symbols,
+        texts: &mut Texts,
+    ) -> Result<(), ReadRefusal>
+        requires { at < 2 ^ 32 }
+        ensures took { IfOk result (λ _. TookPart (part_of text.now at kind.now) self.old.opens self.new.opens (tables_of symbols.old texts.old) (tables_of symbols.new texts.new) self.old.marks.items self.new.marks.items) }
+        ensures refused { IfErr result (RefusedPart (part_of text.now at kind.now) self.old.opens (tables_of symbols.old texts.old) (tables_of symbols.new texts.new)) }
+    {
+        let place = Place(at as u32);
+        match kind {
+            PartKind::Open => self.take_open(place),
+            PartKind::Close => self.take_close(place),
+            PartKind::Quote(function) => self.take_quote(*function, place, symbols),
+            PartKind::Text(characters) => self.take_literal(characters, place, texts),
+            PartKind::OpenText => Err(ReadRefusal::at(END_INSIDE, place)),
+            PartKind::Token(count) => {
+                self.take_token(alloc, letters_at(text, at, *count), place, symbols)
+            }
+        }
+    }
+
+    /// The marks, at the end of a text, where nothing is open.
+    fn finish(self) -> Result<Vec<Mark>, ReadRefusal>
+        ensures ends { (t : Tables) → OnOk result (at_end self.opens t ≡ faultless t) }
+        ensures marks { IfOk result (λ marks. marks.items ≡ self.marks.items) }
+        ensures refused { (t : Tables) → IfErr result (IsEndRefusal self.opens t) }
+    {
+        match self.opens.innermost() {
+            Some(place) => Err(ReadRefusal::at(END_INSIDE, place)),
+            None => Ok(self.marks),
+        }
+    }
+}
+
+/// The marks of a text. Its symbols and literals go into the tables, in the order of reading.
+pub fn gather(
+    alloc: Global,
+    text: &[u8],
+    symbols: &mut Symbols,
+    texts: &mut Texts,
+) -> Result<Vec<Mark>, ReadRefusal>
+    requires whole { IsUtf8 text.now }
+    requires short { length text.now < 2 ^ 32 }
+    ensures gathered { OnOk result (gathered_of [] (tables_of symbols.old texts.old) (parts_of text.now) ≡ faultless (tables_of symbols.new texts.new)) }
+    ensures marks { IfOk result (λ marks. marks.items ≡ map (mark_of (tables_of symbols.new texts.new)) (parts_of text.now)) }
+    ensures refused { IfErr result (IsRefusalOf (parts_of text.now) (tables_of symbols.old texts.old) (tables_of symbols.new texts.new)) }
+{
+    let mut gatherer = Gatherer::new(alloc);
+    let mut at = 0;
+    while at < text.len() {
+        match scan(alloc, text, at)? {
+            Scanned::Blank(next) => at = next,
+            Scanned::Found(kind, next) => {
+                gatherer.take(alloc, text, at, &kind, symbols, texts)?;
+                at = next;
+            }
+        }
+    }
+    gatherer.finish()
+}

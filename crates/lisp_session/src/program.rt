@@ -1,0 +1,80 @@
+ghost use Rattle.std.specs.Prelude.{◌≡◌, IfOk};
+ghost use Rattle.std.specs.Result.{IfErr};
+ghost use Rattle.lisp_forms.specs.Contexts.{program_with};
+ghost use Rattle.lisp_reader.specs.Tables.{tables_of};
+ghost use Rattle.lisp_session.specs.Programs.{Reads};
+ghost use Rattle.lisp_session.specs.Reading.{IsRefusal, of_data, of_text};
+ghost use Rattle.lisp_session.specs.declared.program.Refusal.TheVariants.{Memory};
+
+use lisp_base::id::Place;
+use lisp_base::memory;
+use lisp_forms::expander::{Expansion, expand};
+use lisp_forms::refusal::ExpandRefusal;
+use lisp_reader::reader::read_program;
+use lisp_reader::refusal::ReadRefusal;
+use std::alloc::Global;
+use symbol_table::symbols::Symbols;
+use symbol_table::texts::Texts;
+
+/// A program that was read, with its symbols and string literals.
+#[derive(Debug, Drop)]
+pub(crate) struct Reading {
+    pub expansion: Expansion,
+    pub symbols: Symbols,
+    pub texts: Texts,
+}
+
+/// Why there is no program.
+#[derive(Clone, Copy, Debug, PartialEq, Eq)]
+pub(crate) enum Refusal {
+    /// The number of the refusal, and where it comes.
+    Refused { number: u32, place: Place },
+    /// Memory ran out.
+    Memory,
+}
+
+impl From<memory::Memory> for Refusal {
+    ghost from_gives = { λ _ e. e ≡ Memory };
+
+    fn from(_error: memory::Memory) -> Self {
+        Refusal::Memory
+    }
+}
+
+impl From<ReadRefusal> for Refusal {
+    ghost from_gives = { λ refusal e. e ≡ of_text refusal };
+
+    fn from(refusal: ReadRefusal) -> Self {
+        match refusal {
+            ReadRefusal::Refused { number, place } => Refusal::Refused { number, place },
+            ReadRefusal::Memory => Refusal::Memory,
+        }
+    }
+}
+
+impl From<ExpandRefusal> for Refusal {
+    ghost from_gives = { λ refusal e. e ≡ of_data refusal };
+
+    fn from(refusal: ExpandRefusal) -> Self {
+        match refusal {
+            ExpandRefusal::Refused { number, place } => Refusal::Refused { number, place },
+            ExpandRefusal::Memory => Refusal::Memory,
+        }
+    }
+}
+
+/// Reads the program that these bytes are.
+pub(crate) fn read(alloc: Global, bytes: &[u8]) -> Result<Reading, Refusal>
+    ensures read { IfOk result (λ reading. Reads bytes.now (tables_of reading.symbols reading.texts) (program_with reading.expansion.program reading.expansion.specials.items)) }
+    ensures refused { IfErr result (IsRefusal bytes.now) }
+{
+    let mut symbols = Symbols::new(alloc)?;
+    let mut texts = Texts::new(alloc)?;
+    let data = read_program(alloc, bytes, &mut symbols, &mut texts)?;
+    let expansion = expand(alloc, data.as_slice(), &symbols)?;
+    Ok(Reading {
+        expansion,
+        symbols,
+        texts,
+    })
+}

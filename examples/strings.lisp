@@ -1,0 +1,4 @@
+; printed with quotes, and written on one line
+(print "one \"two\"
+three")
+(print 'done)

@@ -1,0 +1,2 @@
+*late*
+(defvar *late* 1)
