@@ -1,7 +1,7 @@
 #!/usr/bin/env bash
-# How long lisp_run takes to read and judge long texts, and how much memory: numbers at top level, and lists nested 256
-# deep again and again, of 100,000 and of 1,000,000 bytes. The time of the empty text is taken off. Each time is the
-# least of five runs.
+# How long lisp_run takes to read and judge long texts, and how much memory: numbers at top level, lists nested 256 deep
+# again and again, and mixed program text, of 100,000 and of 1,000,000 bytes. The time of the empty text is taken off. Each
+# time is the least of five runs.
 set -eu
 top=$(cd "$(dirname "${BASH_SOURCE[0]}")/.." && pwd)
 work=$(mktemp -d)
@@ -10,12 +10,37 @@ printf '' | "$top/run" >/dev/null
 program=$top/crates/lisp_run/out/lisp_run
 
 python3 - "$work" <<'PY'
-import sys
+import random, sys
 work = sys.argv[1]
+random.seed(1)
+
+def form(depth):
+    """A form of strings, numbers, symbols from a pool of 4,000, calls and bindings, nested at most so deep."""
+    kind = random.random()
+    if depth == 0 or kind < 0.4:
+        return random.choice(["1", "-42", "1.25", f":key{random.randrange(2000)}", f"'sym{random.randrange(1900)}",
+                              f'"text {random.randrange(1000)}"', f"*x{random.randrange(50)}*"])
+    if kind < 0.6:
+        return "(+ " + " ".join(form(depth - 1) for _ in range(random.randrange(1, 4))) + ")"
+    if kind < 0.75:
+        return f"(print {form(depth - 1)})"
+    if kind < 0.9:
+        return "(progn " + " ".join(form(depth - 1) for _ in range(random.randrange(1, 5))) + ")"
+    return f"(let ((*x{random.randrange(50)}* {form(depth - 1)})) {form(depth - 1)})"
+
+def mixed(size):
+    lines = [f"(defvar *x{i}* {i}) ; one of fifty\n" for i in range(50)]
+    length = sum(map(len, lines))
+    while length < size:
+        lines.append(form(6) + "\n")
+        length += len(lines[-1])
+    return "".join(lines[:-1])
+
 nested = "(print " * 256 + "1" + ")" * 256 + "\n"
 for size in (100_000, 1_000_000):
     open(f"{work}/numbers-{size}", "w").write("7 " * (size // 2))
     open(f"{work}/nested-{size}", "w").write(nested * (size // len(nested)))
+    open(f"{work}/mixed-{size}", "w").write(mixed(size))
 open(f"{work}/empty", "w").close()
 PY
 
@@ -36,7 +61,7 @@ def run(name):
 
 empty, _ = run("empty")
 print(f"empty text: {empty * 1000:.1f} ms")
-for kind in ("numbers", "nested"):
+for kind in ("numbers", "nested", "mixed"):
     short, _ = run(f"{kind}-100000")
     long, peak = run(f"{kind}-1000000")
     ratio = (long - empty) / max(short - empty, 1e-9)

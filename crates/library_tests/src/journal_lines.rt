@@ -1,85 +1,36 @@
 //! How values stand on the lines of a journal.
-use crate::tables::Tables;
-use lisp_base::condition::{Class, Condition};
 use lisp_base::id::{Actor, ThreadId};
 use lisp_base::value::{Node, Value};
 use lisp_journal::journal::write_journal;
 use lisp_journal::names::Names;
-use std::alloc::Global;
 use std::test::Fail;
 use symbol_table::error::InternError;
+use symbol_table::symbols::Symbols;
+use symbol_table::texts::Texts;
 use world_semantics::entry::Entry;
-use world_semantics::op::{Op, Printed, Reply};
+use world_semantics::op::{Op, Reply};
 use world_semantics::phase::Ending;
-
-/// The journal of main that does these operations at its first points.
-fn journal_of(alloc: Global, ops: &[Op], tables: &Tables) -> Result<String, Fail> {
-    let mut entries = Vec::new(alloc);
-    for (index, op) in ops.iter().enumerate() {
-        let number = (index as u64).saturating_add(1);
-        entries.push(Entry {
-            ticket: number,
-            actor: Actor::Thread(ThreadId::main()),
-            point: number,
-            op: *op,
-            reply: Reply::Okay,
-        })?;
-    }
-    let names = Names {
-        symbols: &tables.symbols,
-        texts: &tables.texts,
-    };
-    Ok(write_journal(alloc, &names, entries.as_slice()).map_err(InternError::from)?)
-}
 
 #[test]
 fn strings_stand_on_one_line(rt: HostRuntime) -> Result<(), Fail> {
-    let alloc = rt.alloc();
-    let mut tables = Tables::new(alloc)?;
-    for (characters, printed, written) in [
-        ("", r#""\n\"\" ""#, r#""""#),
-        ("a\"b", r#""\n\"a\\\"b\" ""#, r#""a\"b""#),
-        ("two\nlines", r#""\n\"two\nlines\" ""#, r#""two\nlines""#),
-        ("\\n", r#""\n\"\\\\n\" ""#, r#""\\n""#),
-        ("ä€𝄞\n", r#""\n\"ä€𝄞\n\" ""#, r#""ä€𝄞\n""#),
-    ] {
-        let string = tables.texts.intern(characters)?;
-        let Some(value) = Value::of(Node::Text(string)) else {
-            return Err("the string is not in range".into());
-        };
-        let ops = [
-            Op::Out(Printed::Print(value)),
-            Op::Finish(Ending::Returned(value)),
-        ];
-        let journal = journal_of(alloc, &ops, &tables)?;
-        let lines = format!(in alloc;
-            "sbcl-journal 1\n1 t0 1 out {printed} -> ok\n2 t0 2 finish returned {written} -> ok\n"
-        )?;
-        assert_eq!(rt; journal.as_str(), lines.as_str());
-    }
-    Ok(())
-}
-
-#[test]
-fn conditions_and_symbols_stand_on_one_line(rt: HostRuntime) -> Result<(), Fail> {
-    let alloc = rt.alloc();
-    let mut tables = Tables::new(alloc)?;
-    let symbol = tables.symbols.intern("*X*")?;
-    let condition = Condition {
-        class: Class::SimpleError,
-        text: Some(tables.texts.intern("no\n")?),
+    let symbols = Symbols::new(rt.alloc()).map_err(InternError::from)?;
+    let mut texts = Texts::new(rt.alloc()).map_err(InternError::from)?;
+    let string = Value::of(Node::Text(texts.intern("two\nlines \"ä\\n\"")?));
+    let entry = Entry {
+        ticket: 1,
+        actor: Actor::Thread(ThreadId::main()),
+        point: 1,
+        op: Op::Finish(Ending::Returned(string.unwrap_or(Value::nil()))),
+        reply: Reply::Okay,
     };
-    let ops = [
-        Op::Get(symbol),
-        Op::Out(Printed::Print(Value::symbol(symbol))),
-        Op::Finish(Ending::Aborted(Some(condition))),
-    ];
+    let names = Names {
+        symbols: &symbols,
+        texts: &texts,
+    };
+    let journal = write_journal(rt.alloc(), &names, &[entry]).map_err(InternError::from)?;
     let lines = r#"sbcl-journal 1
-1 t0 1 get *X* -> ok
-2 t0 2 out "\n*X* " -> ok
-3 t0 3 finish aborted #<SIMPLE-ERROR "no\n"> -> ok
+1 t0 1 finish returned "two\nlines \"ä\\n\"" -> ok
 "#;
-    let journal = journal_of(alloc, &ops, &tables)?;
-    assert_eq!(rt; journal.as_str(), lines);
+    assert!(rt; journal.as_str() == lines);
     Ok(())
 }

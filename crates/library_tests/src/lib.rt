@@ -4,10 +4,6 @@
 #[cfg(test)]
 mod bindings;
 #[cfg(test)]
-mod cases;
-#[cfg(test)]
-mod forms;
-#[cfg(test)]
 mod journal_lines;
 #[cfg(test)]
 mod limits;
@@ -16,14 +12,4 @@ mod names;
 #[cfg(test)]
 mod printing;
 #[cfg(test)]
-mod programs;
-#[cfg(test)]
-mod refused_texts;
-#[cfg(test)]
 mod steps;
-#[cfg(test)]
-mod tables;
-#[cfg(test)]
-mod tokens;
-#[cfg(test)]
-mod used_names;

@@ -1,76 +1,146 @@
 //! How values are printed, escaped and plain.
-use crate::tables::Tables;
 use lisp_base::condition::{Class, Condition};
 use lisp_base::id::{Micros, MutexId, QueueId, StringId, SymbolId, ThreadId, TimerId};
 use lisp_base::value::{Node, Value};
 use lisp_reader::print::{print_string, print_value};
 use std::alloc::Global;
+use std::process::Abort;
 use std::test::Fail;
 use symbol_table::error::InternError;
+use symbol_table::symbols::Symbols;
+use symbol_table::texts::Texts;
 
-/// A node that is in range, as it prints escaped and plain.
-fn both(alloc: Global, node: Node, tables: &Tables) -> Result<(String, String), Fail> {
+/// Prints a value one way.
+fn check_way(
+    rt: &impl Abort,
+    alloc: Global,
+    (value, escape): (&Value, bool),
+    wanted: &str,
+    (symbols, texts): (&Symbols, &Texts),
+) -> Result<(), Fail> {
+    let printed = print_value(alloc, value, escape, symbols, texts).map_err(InternError::from)?;
+    assert!(rt; printed.as_str() == wanted);
+    Ok(())
+}
+
+/// Prints a node that is in range both ways.
+fn check_both(
+    rt: &impl Abort,
+    alloc: Global,
+    node: Node,
+    (escaped, plain): (&str, &str),
+    tables: (&Symbols, &Texts),
+) -> Result<(), Fail> {
     let Some(value) = Value::of(node) else {
         return Err("the node is not in range".into());
     };
-    let escaped = print_value(alloc, &value, true, &tables.symbols, &tables.texts).map_err(
-        InternError::from,
-    )?;
-    let plain = print_value(alloc, &value, false, &tables.symbols, &tables.texts).map_err(
-        InternError::from,
-    )?;
-    Ok((escaped, plain))
+    check_way(rt, alloc, (&value, true), escaped, tables)?;
+    check_way(rt, alloc, (&value, false), plain, tables)
+}
+
+/// Prints a node over the five first symbols and one string.
+fn check(
+    rt: &impl Abort,
+    alloc: Global,
+    node: Node,
+    escaped: &str,
+    plain: &str,
+) -> Result<(), Fail> {
+    let symbols = Symbols::new(alloc).map_err(InternError::from)?;
+    let mut texts = Texts::new(alloc).map_err(InternError::from)?;
+    texts.intern("the only one")?;
+    check_both(rt, alloc, node, (escaped, plain), (&symbols, &texts))
+}
+
+/// Prints a symbol, which both ways is its name.
+fn check_symbol(rt: &impl Abort, alloc: Global, name: &str) -> Result<(), Fail> {
+    let mut symbols = Symbols::new(alloc).map_err(InternError::from)?;
+    let texts = Texts::new(alloc).map_err(InternError::from)?;
+    let node = Node::Symbol(symbols.intern(name)?);
+    check_both(rt, alloc, node, (name, name), (&symbols, &texts))
+}
+
+/// Prints a string, or a condition with it as its text.
+fn check_text(
+    rt: &impl Abort,
+    alloc: Global,
+    class: Option<Class>,
+    characters: &str,
+    escaped: &str,
+) -> Result<(), Fail> {
+    let symbols = Symbols::new(alloc).map_err(InternError::from)?;
+    let mut texts = Texts::new(alloc).map_err(InternError::from)?;
+    let node = node_of(class, texts.intern(characters)?);
+    check_both(rt, alloc, node, (escaped, characters), (&symbols, &texts))
+}
+
+/// A string, or a condition with it as its text.
+fn node_of(class: Option<Class>, string: StringId) -> Node {
+    match class {
+        Some(class) => Node::Cond(Condition {
+            class,
+            text: Some(string),
+        }),
+        None => Node::Text(string),
+    }
+}
+
+/// Prints a string as a value and by itself.
+fn check_string(
+    rt: &impl Abort,
+    alloc: Global,
+    characters: &str,
+    escaped: &str,
+) -> Result<(), Fail> {
+    let string = print_string(alloc, characters).map_err(InternError::from)?;
+    assert!(rt; string.as_str() == escaped);
+    check_text(rt, alloc, None, characters, escaped)
+}
+
+/// Prints a condition with a text.
+fn check_condition(
+    rt: &impl Abort,
+    alloc: Global,
+    class: Class,
+    text: &str,
+    escaped: &str,
+) -> Result<(), Fail> {
+    check_text(rt, alloc, Some(class), text, escaped)
 }
 
 #[test]
 fn integers_and_times(rt: HostRuntime) -> Result<(), Fail> {
-    let alloc = rt.alloc();
-    let tables = Tables::new(alloc)?;
-    for (node, text) in [
-        (Node::Int(0), "0"),
-        (Node::Int(7), "7"),
-        (Node::Int(-1), "-1"),
-        (Node::Int(-1_000_000), "-1000000"),
-        (Node::Int(4_611_686_018_427_387_903), "4611686018427387903"),
-        (
-            Node::Int(-4_611_686_018_427_387_904),
-            "-4611686018427387904",
-        ),
-        (Node::Time(Micros(0)), "0.000000"),
-        (Node::Time(Micros(1)), "0.000001"),
-        (Node::Time(Micros(70)), "0.000070"),
-        (Node::Time(Micros(999)), "0.000999"),
-        (Node::Time(Micros(1_000)), "0.001000"),
-        (Node::Time(Micros(25_000)), "0.025000"),
-        (Node::Time(Micros(500_000)), "0.500000"),
-        (Node::Time(Micros(999_999)), "0.999999"),
-        (Node::Time(Micros(1_000_000)), "1.000000"),
-        (Node::Time(Micros(90_100_000)), "90.100000"),
-        (
-            Node::Time(Micros(4_000_000_000_000_000)),
-            "4000000000.000000",
-        ),
-        (
-            Node::Time(Micros(4_616_189_618_054_758_399)),
-            "4616189618054.758399",
-        ),
-    ] {
-        let (escaped, plain) = both(alloc, node, &tables)?;
-        assert_eq!(rt; escaped.as_str(), text);
-        assert_eq!(rt; plain.as_str(), text);
+    let integers = "0 7 -1 -1000000 4611686018427387903 -4611686018427387904";
+    for text in integers.split(' ') {
+        check(&rt, rt.alloc(), Node::Int(text.parse()?), text, text)?;
+    }
+    let times = "0 0.000000
+1 0.000001
+70 0.000070
+999 0.000999
+1000 0.001000
+25000 0.025000
+999999 0.999999
+1000000 1.000000
+90100000 90.100000
+4616189618054758399 4616189618054.758399";
+    for line in times.lines() {
+        let (micros, text) = line.split_once(' ').unwrap_or(("", ""));
+        check(
+            &rt,
+            rt.alloc(),
+            Node::Time(Micros(micros.parse()?)),
+            text,
+            text,
+        )?;
     }
     Ok(())
 }
 
 #[test]
 fn symbols_and_keywords(rt: HostRuntime) -> Result<(), Fail> {
-    let alloc = rt.alloc();
-    let mut tables = Tables::new(alloc)?;
-    for name in ["NIL", "T", ":WARN", ":FORCE", "CAR", "*X*", "1+", ":X", "λ"] {
-        let symbol = tables.symbols.intern(name)?;
-        let (escaped, plain) = both(alloc, Node::Symbol(symbol), &tables)?;
-        assert_eq!(rt; escaped.as_str(), name);
-        assert_eq!(rt; plain.as_str(), name);
+    for name in "NIL T :WARN :FORCE CAR *X* 1+ λ".split(' ') {
+        check_symbol(&rt, rt.alloc(), name)?;
     }
     Ok(())
 }
@@ -78,87 +148,78 @@ fn symbols_and_keywords(rt: HostRuntime) -> Result<(), Fail> {
 #[test]
 fn strings(rt: HostRuntime) -> Result<(), Fail> {
     let alloc = rt.alloc();
-    let mut tables = Tables::new(alloc)?;
-    for (characters, text) in [
-        ("", r#""""#),
-        ("abc", r#""abc""#),
-        (" a  b ", r#"" a  b ""#),
-        ("NIL", r#""NIL""#),
-        ("?", r#""?""#),
-        ("two\nlines\n", "\"two\nlines\n\""),
-        ("\t\r", "\"\t\r\""),
-        ("\"", r#""\"""#),
-        ("\\", r#""\\""#),
-        ("a\"b", r#""a\"b""#),
-        ("\\\"\\", r#""\\\"\\""#),
-        ("\\n", r#""\\n""#),
-        ("ä€𝄞", r#""ä€𝄞""#),
-        ("λ\"𝄞\\é", r#""λ\"𝄞\\é""#),
-    ] {
-        let string = tables.texts.intern(characters)?;
-        let (escaped, plain) = both(alloc, Node::Text(string), &tables)?;
-        assert_eq!(rt; escaped.as_str(), text);
-        assert_eq!(rt; plain.as_str(), characters);
-        let string = print_string(alloc, characters).map_err(InternError::from)?;
-        assert_eq!(rt; string.as_str(), text);
-    }
-    Ok(())
+    check_string(&rt, alloc, "", r#""""#)?;
+    check_string(&rt, alloc, " a  b ", r#"" a  b ""#)?;
+    check_string(&rt, alloc, "?", r#""?""#)?;
+    check_string(&rt, alloc, "two\nlines\n", "\"two\nlines\n\"")?;
+    check_string(&rt, alloc, "\t\r", "\"\t\r\"")?;
+    check_string(&rt, alloc, "a\"b", r#""a\"b""#)?;
+    check_string(&rt, alloc, "\\\"\\", r#""\\\"\\""#)?;
+    check_string(&rt, alloc, "\\n", r#""\\n""#)?;
+    check_string(&rt, alloc, "λ\"𝄞\\é", r#""λ\"𝄞\\é""#)
 }
 
 #[test]
 fn objects(rt: HostRuntime) -> Result<(), Fail> {
-    let alloc = rt.alloc();
-    let tables = Tables::new(alloc)?;
-    let timer = TimerId::new(4095, ThreadId::main()).map(Node::Timer);
-    for (node, text) in [
-        (Some(Node::Thread(ThreadId::main())), "#<THREAD 0>"),
-        (ThreadId::new(31).map(Node::Thread), "#<THREAD 31>"),
-        (MutexId::new(0).map(Node::Mutex), "#<MUTEX 0>"),
-        (MutexId::new(255).map(Node::Mutex), "#<MUTEX 255>"),
-        (QueueId::new(10).map(Node::Queue), "#<WAITQUEUE 10>"),
-        (timer, "#<TIMER 4095>"),
-    ] {
-        let Some(node) = node else {
-            return Err("no object has the number".into());
-        };
-        let (escaped, plain) = both(alloc, node, &tables)?;
-        assert_eq!(rt; escaped.as_str(), text);
-        assert_eq!(rt; plain.as_str(), text);
-    }
-    Ok(())
+    let (main, timer) = (ThreadId::main(), TimerId::new(4095, ThreadId::main()));
+    check_object(&rt, rt.alloc(), Some(Node::Thread(main)), "#<THREAD 0>")?;
+    check_object(
+        &rt,
+        rt.alloc(),
+        ThreadId::new(31).map(Node::Thread),
+        "#<THREAD 31>",
+    )?;
+    check_object(
+        &rt,
+        rt.alloc(),
+        MutexId::new(0).map(Node::Mutex),
+        "#<MUTEX 0>",
+    )?;
+    check_object(
+        &rt,
+        rt.alloc(),
+        MutexId::new(255).map(Node::Mutex),
+        "#<MUTEX 255>",
+    )?;
+    check_object(
+        &rt,
+        rt.alloc(),
+        QueueId::new(10).map(Node::Queue),
+        "#<WAITQUEUE 10>",
+    )?;
+    check_object(&rt, rt.alloc(), timer.map(Node::Timer), "#<TIMER 4095>")
+}
+
+/// Prints an object whose number is in range, which prints the same both ways.
+fn check_object(
+    rt: &impl Abort,
+    alloc: Global,
+    node: Option<Node>,
+    text: &str,
+) -> Result<(), Fail> {
+    let Some(node) = node else {
+        return Err("no object has the number".into());
+    };
+    check(rt, alloc, node, text, text)
 }
 
 #[test]
 fn conditions_without_a_text(rt: HostRuntime) -> Result<(), Fail> {
-    let alloc = rt.alloc();
-    let tables = Tables::new(alloc)?;
-    for (class, printed) in [
-        (Class::Condition, "#<CONDITION>"),
-        (Class::SeriousCondition, "#<SERIOUS-CONDITION>"),
-        (Class::Error, "#<ERROR>"),
-        (Class::StorageCondition, "#<STORAGE-CONDITION>"),
-        (Class::SimpleError, "#<SIMPLE-ERROR>"),
-        (Class::TypeError, "#<TYPE-ERROR>"),
-        (Class::ProgramError, "#<PROGRAM-ERROR>"),
-        (Class::ControlError, "#<CONTROL-ERROR>"),
-        (Class::CellError, "#<CELL-ERROR>"),
-        (Class::UnboundVariable, "#<UNBOUND-VARIABLE>"),
-        (Class::UndefinedFunction, "#<UNDEFINED-FUNCTION>"),
-        (Class::ArithmeticError, "#<ARITHMETIC-ERROR>"),
-        (Class::DivisionByZero, "#<DIVISION-BY-ZERO>"),
-        (Class::IntegerRange, "#<INTEGER-RANGE>"),
-        (Class::ThreadError, "#<THREAD-ERROR>"),
-        (Class::InterruptThreadError, "#<INTERRUPT-THREAD-ERROR>"),
-        (Class::JoinThreadError, "#<JOIN-THREAD-ERROR>"),
-        (Class::NotOwner, "#<NOT-OWNER>"),
-        (Class::RecursiveLock, "#<RECURSIVE-LOCK>"),
-        (Class::Timeout, "#<TIMEOUT>"),
-        (Class::DeadlineTimeout, "#<DEADLINE-TIMEOUT>"),
-    ] {
-        let condition = Condition { class, text: None };
-        let (escaped, plain) = both(alloc, Node::Cond(condition), &tables)?;
-        assert_eq!(rt; escaped.as_str(), printed);
-        assert_eq!(rt; plain.as_str(), printed);
+    let classes = [
+        Class::Condition,
+        Class::SeriousCondition,
+        Class::SimpleError,
+        Class::UnboundVariable,
+        Class::IntegerRange,
+        Class::JoinThreadError,
+        Class::NotOwner,
+        Class::DeadlineTimeout,
+    ];
+    let texts =
+        "#<CONDITION> #<SERIOUS-CONDITION> #<SIMPLE-ERROR> #<UNBOUND-VARIABLE> #<INTEGER-RANGE> #<JOIN-THREAD-ERROR> #<NOT-OWNER> #<DEADLINE-TIMEOUT>";
+    for (class, text) in classes.into_iter().zip(texts.split(' ')) {
+        let node = Node::Cond(Condition { class, text: None });
+        check(&rt, rt.alloc(), node, text, text)?;
     }
     Ok(())
 }
@@ -166,48 +227,51 @@ fn conditions_without_a_text(rt: HostRuntime) -> Result<(), Fail> {
 #[test]
 fn conditions_with_a_text(rt: HostRuntime) -> Result<(), Fail> {
     let alloc = rt.alloc();
-    let mut tables = Tables::new(alloc)?;
-    for (class, text, printed) in [
-        (Class::SimpleError, "no", r#"#<SIMPLE-ERROR "no">"#),
-        (Class::Error, "", r#"#<ERROR "">"#),
-        (
-            Class::TypeError,
-            r#"not "a" but \"#,
-            r#"#<TYPE-ERROR "not \"a\" but \\">"#,
-        ),
-        (Class::Timeout, "λ\n", "#<TIMEOUT \"λ\n\">"),
-        (Class::Condition, "#<ERROR>", r##"#<CONDITION "#<ERROR>">"##),
-    ] {
-        let condition = Condition {
-            class,
-            text: Some(tables.texts.intern(text)?),
-        };
-        let (escaped, plain) = both(alloc, Node::Cond(condition), &tables)?;
-        assert_eq!(rt; escaped.as_str(), printed);
-        assert_eq!(rt; plain.as_str(), text);
-    }
-    Ok(())
+    check_condition(
+        &rt,
+        alloc,
+        Class::SimpleError,
+        "no",
+        r#"#<SIMPLE-ERROR "no">"#,
+    )?;
+    check_condition(&rt, alloc, Class::Error, "", r#"#<ERROR "">"#)?;
+    check_condition(
+        &rt,
+        alloc,
+        Class::TypeError,
+        r#""a" \"#,
+        r#"#<TYPE-ERROR "\"a\" \\">"#,
+    )?;
+    check_condition(&rt, alloc, Class::Timeout, "λ\n", "#<TIMEOUT \"λ\n\">")
 }
 
 #[test]
 fn what_is_not_in_the_tables(rt: HostRuntime) -> Result<(), Fail> {
-    let alloc = rt.alloc();
-    let mut tables = Tables::new(alloc)?;
-    tables.texts.intern("the only one")?;
     let condition = Condition {
         class: Class::NotOwner,
         text: Some(StringId(1)),
     };
-    for (node, escaped_text, plain_text) in [
-        (Node::Symbol(SymbolId(5)), "?", "?"),
-        (Node::Symbol(SymbolId(2_147_483_647)), "?", "?"),
-        (Node::Text(StringId(1)), "?", "?"),
-        (Node::Text(StringId(4_294_967_295)), "?", "?"),
-        (Node::Cond(condition), "#<NOT-OWNER ?>", "?"),
-    ] {
-        let (escaped, plain) = both(alloc, node, &tables)?;
-        assert_eq!(rt; escaped.as_str(), escaped_text);
-        assert_eq!(rt; plain.as_str(), plain_text);
-    }
-    Ok(())
+    check(&rt, rt.alloc(), Node::Symbol(SymbolId(5)), "?", "?")?;
+    check(
+        &rt,
+        rt.alloc(),
+        Node::Symbol(SymbolId(2_147_483_647)),
+        "?",
+        "?",
+    )?;
+    check(&rt, rt.alloc(), Node::Text(StringId(1)), "?", "?")?;
+    check(
+        &rt,
+        rt.alloc(),
+        Node::Text(StringId(4_294_967_295)),
+        "?",
+        "?",
+    )?;
+    check(
+        &rt,
+        rt.alloc(),
+        Node::Cond(condition),
+        "#<NOT-OWNER ?>",
+        "?",
+    )
 }

@@ -2,13 +2,11 @@
 use Rattle.std.specs.Prelude.{ℕ, List, Bool, ◌||◌, ◌==◌, Option, Some, None, if◌then◌else◌, get_or, codes}
 use Rattle.std.specs.Str.{bytes_eq}
 use Rattle.lisp_forms.specs.declared.operator.Operator.{Operator}
-use Rattle.lisp_forms.specs.declared.operator.Operator.TheVariants.{Quote, Progn, Setq, Let, Plus, Times, Print, Defvar, LaterTop, Later}
+use Rattle.lisp_forms.specs.declared.operator.Operator.TheVariants.{Quote, Progn, Setq, Let, Plus, Times, Print, Defvar, Defparameter, Ignored, LaterTop, Later}
 
--- the operators of the top level that are not built yet
-abbrev pub is_later_top : List ℕ → Bool
-is_later_top name =
-    bytes_eq name (codes "DEFUN") || bytes_eq name (codes "DEFPARAMETER") || bytes_eq name (codes "IN-PACKAGE")
-    || bytes_eq name (codes "DECLAIM") || bytes_eq name (codes "USE-PACKAGE")
+-- operators of the top level that are NIL there, whatever they hold
+abbrev pub is_ignored : List ℕ → Bool
+is_ignored name = bytes_eq name (codes "IN-PACKAGE") || bytes_eq name (codes "DECLAIM") || bytes_eq name (codes "USE-PACKAGE")
 
 -- the operators of control that are not built yet
 abbrev pub is_later_control : List ℕ → Bool
@@ -18,7 +16,7 @@ is_later_control name =
     || bytes_eq name (codes "HANDLER-CASE") || bytes_eq name (codes "ERROR") || bytes_eq name (codes "FUNCTION")
     || bytes_eq name (codes "LAMBDA") || bytes_eq name (codes "ABORT-THREAD") || bytes_eq name (codes "RETURN-FROM-THREAD")
 
--- those of regions, deadlines and shared variables
+-- those of regions, deadlines, mutexes and threads
 abbrev pub is_later_region : List ℕ → Bool
 is_later_region name =
     bytes_eq name (codes "WITHOUT-INTERRUPTS") || bytes_eq name (codes "ALLOW-WITH-INTERRUPTS")
@@ -27,7 +25,7 @@ is_later_region name =
     || bytes_eq name (codes "WITH-RECURSIVE-LOCK") || bytes_eq name (codes "COMPARE-AND-SWAP")
     || bytes_eq name (codes "TERMINATE-THREAD")
 
--- forms that stand for others and are not built yet
+-- `declare`, and forms that stand for others and are not built yet
 abbrev pub is_later_derived : List ℕ → Bool
 is_later_derived name =
     bytes_eq name (codes "LET*") || bytes_eq name (codes "WHEN") || bytes_eq name (codes "UNLESS")
@@ -85,9 +83,9 @@ is_later name =
     is_later_control name || is_later_region name || is_later_derived name || is_later_loop name || is_later_number name || is_later_order name
     || is_later_test name || is_later_thread name || is_later_object name
 
--- the operators that are built
-abbrev pub built_operator : List ℕ → Option Operator
-built_operator name =
+-- the operators that are told apart: those that are built, and `defparameter`, which defines a variable
+abbrev pub told_operator : List ℕ → Option Operator
+told_operator name =
     if bytes_eq name (codes "QUOTE") then Some Quote
     else if bytes_eq name (codes "PROGN") then Some Progn
     else if bytes_eq name (codes "SETQ") then Some Setq
@@ -96,11 +94,16 @@ built_operator name =
     else if bytes_eq name (codes "*") then Some Times
     else if bytes_eq name (codes "PRINT") then Some Print
     else if bytes_eq name (codes "DEFVAR") then Some Defvar
+    else if bytes_eq name (codes "DEFPARAMETER") then Some Defparameter
     else None
 
--- an operator that is not built yet, where the name is one
+-- an operator that is ignored or not built yet, where the name is one
 abbrev pub later_operator : List ℕ → Option Operator
-later_operator name = if is_later_top name then Some LaterTop else if is_later name then Some Later else None
+later_operator name =
+    if is_ignored name then Some Ignored
+    else if bytes_eq name (codes "DEFUN") then Some LaterTop
+    else if is_later name then Some Later
+    else None
 
 -- one operator or else another
 abbrev pub or_else : Option Operator → Option Operator → Option Operator
@@ -109,7 +112,7 @@ or_else (Some operator) other = Some operator
 
 -- the operator or function with a name
 abbrev pub operator_named : List ℕ → Option Operator
-operator_named name = or_else (built_operator name) (later_operator name)
+operator_named name = or_else (told_operator name) (later_operator name)
 
 -- NIL, T and keywords stand for themselves
 abbrev pub is_constant : List ℕ → Bool

@@ -17,7 +17,7 @@ use Rattle.lisp_forms.specs.declared.expanded.Expanded.{Expanded}
 use Rattle.lisp_forms.specs.declared.expanded.Expanded.TheVariants.{Form, Refused}
 use Rattle.lisp_forms.specs.declared.expander.Refusal.{Refusal}
 use Rattle.lisp_forms.specs.declared.operator.Operator.{Operator}
-use Rattle.lisp_forms.specs.declared.operator.Operator.TheVariants.{Quote, Progn, Setq, Let, Plus, Times, Print, Defvar, LaterTop, Later}
+use Rattle.lisp_forms.specs.declared.operator.Operator.TheVariants.{Quote, Progn, Setq, Let, Plus, Times, Print, Defvar, Defparameter, Ignored, LaterTop, Later}
 use Rattle.lisp_forms.specs.declared.refusal.ExpandRefusal.{ExpandRefusal}
 use Rattle.lisp_forms.specs.declared.refusal.ExpandRefusal.TheVariants.{Refused as RefusedProgram, Memory}
 use Rattle.lisp_forms.specs.declared.shape.Shape.{Shape}
@@ -44,9 +44,13 @@ abbrev pub as_variable : List (List ℕ) → Option ℕ → Option ℕ
 as_variable names None = None
 as_variable names (Some x) = if is_variable_name names x then Some x else None
 
--- `defvar` has a name, and may have a value and a string behind it
+-- behind `defvar` stand a name, or a name and a value, or these and a string; whether it is a name is looked at apart
 abbrev pub is_definition : Data → Bool
 is_definition args = nat_lt (count_of args) 3 || ((count_of args == 3) && is_text_first (behind 2 args))
+
+-- behind `defparameter` stand a name and a value, and there may be a string behind them
+abbrev pub is_parameter : Data → Bool
+is_parameter args = (count_of args == 2) || ((count_of args == 3) && is_text_first (behind 2 args))
 
 -- the variable that a list with this operator and these arguments defines
 abbrev pub defined_by : List (List ℕ) → Option Operator → Data → Option ℕ
@@ -59,6 +63,8 @@ defined_by names (Some Plus) args = None
 defined_by names (Some Times) args = None
 defined_by names (Some Print) args = None
 defined_by names (Some Defvar) args = if is_definition args then as_variable names (first_symbol args) else None
+defined_by names (Some Defparameter) args = if is_parameter args then as_variable names (first_symbol args) else None
+defined_by names (Some Ignored) args = None
 defined_by names (Some LaterTop) args = None
 defined_by names (Some Later) args = None
 
@@ -112,35 +118,52 @@ functions_from names known (d ∷ ds) = functions_from names (with_variable (fun
 abbrev pub most_specials : ℕ
 most_specials = 256
 
--- a definition of a variable with these arguments
-abbrev pub definition_shape : ℕ → ℕ → Data → Shape
-definition_shape p x args =
-    if count_of args == 1 then LeafShape (Form (Constant (ASymbol x)))
-    else if count_of args == 2 then Setting (DefvarForm x)
+-- an operator is `defvar`
+abbrev pub is_defvar : Option Operator → Bool
+is_defvar None = false
+is_defvar (Some Quote) = false
+is_defvar (Some Progn) = false
+is_defvar (Some Setq) = false
+is_defvar (Some Let) = false
+is_defvar (Some Plus) = false
+is_defvar (Some Times) = false
+is_defvar (Some Print) = false
+is_defvar (Some Defvar) = true
+is_defvar (Some Defparameter) = false
+is_defvar (Some Ignored) = false
+is_defvar (Some LaterTop) = false
+is_defvar (Some Later) = false
+
+-- a definition of a variable with these arguments, by `defvar` or else by `defparameter`
+abbrev pub definition_shape : ℕ → ℕ → (by_defvar : Bool) → Data → Shape
+definition_shape p x by_defvar args =
+    if by_defvar && (count_of args == 1) then LeafShape (Form (Constant (ASymbol x)))
+    else if by_defvar && (count_of args == 2) then Setting (DefvarForm x)
     else Wrong 10 p
 
--- an operator of the top level that is not built yet
-abbrev pub is_later_top_operator : Option Operator → Bool
-is_later_top_operator None = false
-is_later_top_operator (Some Quote) = false
-is_later_top_operator (Some Progn) = false
-is_later_top_operator (Some Setq) = false
-is_later_top_operator (Some Let) = false
-is_later_top_operator (Some Plus) = false
-is_later_top_operator (Some Times) = false
-is_later_top_operator (Some Print) = false
-is_later_top_operator (Some Defvar) = false
-is_later_top_operator (Some LaterTop) = true
-is_later_top_operator (Some Later) = false
+-- a list with this operator at top level that defines no variable: it is ignored, not built yet, or as anywhere else
+abbrev pub undefining_shape : ℕ → Option Operator → Shape → Shape
+undefining_shape p None elsewhere = elsewhere
+undefining_shape p (Some Quote) elsewhere = elsewhere
+undefining_shape p (Some Progn) elsewhere = elsewhere
+undefining_shape p (Some Setq) elsewhere = elsewhere
+undefining_shape p (Some Let) elsewhere = elsewhere
+undefining_shape p (Some Plus) elsewhere = elsewhere
+undefining_shape p (Some Times) elsewhere = elsewhere
+undefining_shape p (Some Print) elsewhere = elsewhere
+undefining_shape p (Some Defvar) elsewhere = elsewhere
+undefining_shape p (Some Defparameter) elsewhere = elsewhere
+undefining_shape p (Some Ignored) elsewhere = LeafShape (Form (Constant nil))
+undefining_shape p (Some LaterTop) elsewhere = Wrong 10 p
+undefining_shape p (Some Later) elsewhere = elsewhere
 
 -- a list of these at top level, where it defines this variable, and these are defined before it
 abbrev pub top_shape : Scope → List ℕ → ℕ → Option ℕ → Data → Shape
-top_shape s known p None under =
-    if is_later_top_operator (operator_at s (first_symbol under)) then Wrong 10 p else shape_of s p under
+top_shape s known p None under = undefining_shape p (operator_at s (first_symbol under)) (shape_of s p under)
 top_shape s known p (Some x) under =
     if has known x then Wrong 18 p
     else if length known == most_specials then Wrong 17 p
-    else definition_shape p x (behind 1 under)
+    else definition_shape p x (is_defvar (built_in s.names (first_symbol under))) (behind 1 under)
 
 -- the first of these as a form at top level
 abbrev pub top_form : Scope → List ℕ → Data → Expansion

@@ -14,7 +14,7 @@ use Rattle.lisp_reader.specs.declared.items.First.TheVariants.{Leaf as LeafFirst
 use Rattle.lisp_forms.specs.declared.expanded.Expanded.{Expanded}
 use Rattle.lisp_forms.specs.declared.expanded.Expanded.TheVariants.{Form, Refused}
 use Rattle.lisp_forms.specs.declared.operator.Operator.{Operator}
-use Rattle.lisp_forms.specs.declared.operator.Operator.TheVariants.{Quote, Progn, Setq, Let, Plus, Times, Print, Defvar, LaterTop, Later}
+use Rattle.lisp_forms.specs.declared.operator.Operator.TheVariants.{Quote, Progn, Setq, Let, Plus, Times, Print, Defvar, Defparameter, Ignored, LaterTop, Later}
 use Rattle.lisp_forms.specs.declared.shape.Shape.{Shape}
 use Rattle.lisp_forms.specs.declared.shape.Shape.TheVariants.{Wrong, Leaf as LeafShape, Call, Sum, Setting, Binding}
 use Rattle.lisp_forms.specs.Operators.{is_constant, is_current_thread, operator_named}
@@ -116,7 +116,7 @@ setq_shape s p args =
     else if (count_of args == 0) || is_odd (count_of args) then Wrong 12 p
     else Wrong 10 p
 
--- the variable of a binding `x`, `(x)` or `(x value)`
+-- the variable of a binding `(x)` or `(x value)`
 abbrev pub bound_in_list : Data → Option ℕ
 bound_in_list under = if nat_lt (count_of under) 3 then first_symbol under else None
 
@@ -157,7 +157,7 @@ variables_fault s xs =
     else if not (list_all (has s.specials) xs) then Some 10
     else None
 
--- variables without a fault
+-- a `let` whose variables have this fault or none
 abbrev pub faultless_binding : ℕ → Option ℕ → Shape
 faultless_binding p None = Binding
 faultless_binding p (Some number) = Wrong number p
@@ -167,7 +167,7 @@ abbrev pub binding : Scope → ℕ → Option (List ℕ) → Shape
 binding s p None = Wrong 12 p
 binding s p (Some xs) = faultless_binding p (variables_fault s xs)
 
--- a sum or product of these arguments, which is this where there are none
+-- a sum of these arguments, which is 0 where there are none
 abbrev pub sum_shape : ℕ → Data → Shape
 sum_shape p args =
     if nat_lt most (count_of args) then Wrong 17 p
@@ -192,6 +192,8 @@ shape_led s p (Some Plus) args = sum_shape p args
 shape_led s p (Some Times) args = product_shape p args
 shape_led s p (Some Print) args = if count_of args == 1 then Call PrintForm else Wrong 12 p
 shape_led s p (Some Defvar) args = Wrong 12 p
+shape_led s p (Some Defparameter) args = Wrong 12 p
+shape_led s p (Some Ignored) args = Wrong 12 p
 shape_led s p (Some LaterTop) args = Wrong 12 p
 shape_led s p (Some Later) args = Wrong 10 p
 

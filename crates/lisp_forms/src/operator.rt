@@ -12,21 +12,21 @@ pub enum Operator {
     Times,
     Print,
     Defvar,
-    /// An operator of the top level that is not built yet.
+    /// `defparameter`, which defines a variable, and of which no form is built yet.
+    Defparameter,
+    /// An operator of the top level that is NIL there, whatever it holds: `in-package`, `declaim` or `use-package`.
+    Ignored,
+    /// Another operator of the top level that is not built yet: `defun`.
     LaterTop,
     /// Any other operator or function that is not built yet.
     Later,
 }
 
-/// Whether this is an operator of the top level that is not built yet.
-fn is_later_top(name: &str) -> bool
-    ensures { result ≡ Operators.is_later_top name.now }
+/// Whether this is an operator of the top level that is NIL there, whatever it holds.
+fn is_ignored(name: &str) -> bool
+    ensures { result ≡ Operators.is_ignored name.now }
 {
-    name == "DEFUN"
-        || name == "DEFPARAMETER"
-        || name == "IN-PACKAGE"
-        || name == "DECLAIM"
-        || name == "USE-PACKAGE"
+    name == "IN-PACKAGE" || name == "DECLAIM" || name == "USE-PACKAGE"
 }
 
 /// Whether this is an operator of control that is not built yet.
@@ -47,7 +47,7 @@ fn is_later_control(name: &str) -> bool
         || name == "RETURN-FROM-THREAD"
 }
 
-/// Whether this is an operator of regions, deadlines or shared variables that is not built yet.
+/// Whether this is an operator of regions, deadlines, mutexes or threads that is not built yet.
 fn is_later_region(name: &str) -> bool
     ensures { result ≡ Operators.is_later_region name.now }
 {
@@ -63,7 +63,7 @@ fn is_later_region(name: &str) -> bool
         || name == "TERMINATE-THREAD"
 }
 
-/// Whether this is a form that stands for others and is not built yet.
+/// Whether this is `declare`, or a form that stands for others and is not built yet.
 fn is_later_derived(name: &str) -> bool
     ensures { result ≡ Operators.is_later_derived name.now }
 {
@@ -180,9 +180,9 @@ fn is_later(name: &str) -> bool
         || is_later_object(name)
 }
 
-/// The operator that is built and has this name.
-fn built_operator(name: &str) -> Option<Operator>
-    ensures { result ≡ Operators.built_operator name.now }
+/// The operator with this name that is told apart from others.
+fn told_operator(name: &str) -> Option<Operator>
+    ensures { result ≡ Operators.told_operator name.now }
 {
     if name == "QUOTE" {
         return Some(Operator::Quote);
@@ -208,6 +208,9 @@ fn built_operator(name: &str) -> Option<Operator>
     if name == "DEFVAR" {
         return Some(Operator::Defvar);
     }
+    if name == "DEFPARAMETER" {
+        return Some(Operator::Defparameter);
+    }
     None
 }
 
@@ -215,10 +218,13 @@ fn built_operator(name: &str) -> Option<Operator>
 pub fn operator_named(name: &str) -> Option<Operator>
     ensures { result ≡ Operators.operator_named name.now }
 {
-    if let Some(operator) = built_operator(name) {
+    if let Some(operator) = told_operator(name) {
         return Some(operator);
     }
-    if is_later_top(name) {
+    if is_ignored(name) {
+        return Some(Operator::Ignored);
+    }
+    if name == "DEFUN" {
         return Some(Operator::LaterTop);
     }
     if is_later(name) {

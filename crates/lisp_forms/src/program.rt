@@ -3,6 +3,7 @@ ghost use Rattle.lisp_forms.specs.Contexts.{scope_in};
 ghost use Rattle.lisp_forms.specs.Flat.{flat};
 ghost use Rattle.lisp_forms.specs.Program;
 ghost use Rattle.lisp_forms.specs.Shapes.{Scope, first_symbol as first_symbol_in};
+ghost use Rattle.lisp_program.specs.Points.{nil};
 ghost use Rattle.lisp_reader.specs.Data.{Data, behind, count_of};
 
 use crate::context::{
@@ -62,6 +63,14 @@ fn is_definition(arguments: &Items) -> bool
     count < 3 || (count == 3 && is_text_third(arguments))
 }
 
+/// Whether `defparameter` may have these arguments, but for what the first is.
+fn is_parameter(arguments: &Items) -> bool
+    ensures { result ≡ Program.is_parameter arguments.now }
+{
+    let count = arguments.count();
+    count == 2 || (count == 3 && is_text_third(arguments))
+}
+
 /// The operator in front of a list, whatever the program defines.
 fn built_in(symbols: &Symbols, head: Option<SymbolId>) -> Option<Operator>
     ensures { result ≡ Program.built_in symbols.now head }
@@ -89,6 +98,9 @@ fn definition_in(symbols: &Symbols, under: &Items) -> Option<SymbolId>
     let (_, arguments) = under.split_first()?;
     match operator {
         Some(Operator::Defvar) if is_definition(&arguments) => {
+            first_variable(symbols, &arguments)
+        }
+        Some(Operator::Defparameter) if is_parameter(&arguments) => {
             first_variable(symbols, &arguments)
         }
         _ => None,
@@ -173,20 +185,35 @@ pub fn functions(
     Ok(known)
 }
 
-/// A definition of a variable with so many arguments.
-fn definition_shape(place: Place, symbol: SymbolId, count: u32) -> Shape
-    ensures { (args : Data) → count ≡ count_of args → result ≡ Program.definition_shape place symbol args }
+/// Whether a list of these is a `defvar`.
+fn is_defvar(symbols: &Symbols, under: &Items) -> bool
+    ensures { result ≡ Program.is_defvar (Program.built_in symbols.now (first_symbol_in under.now)) }
 {
-    match count {
-        1 => Shape::Leaf(Expanded::Form(CoreKind::Constant(Value::symbol(symbol)))),
-        2 => Shape::Setting(CoreKind::Defvar(symbol)),
-        _ => Shape::Wrong(NOT_BUILT, place),
+    built_in(symbols, first_symbol(under)) == Some(Operator::Defvar)
+}
+
+/// A definition of a variable with so many arguments, by `defvar` or else by `defparameter`.
+fn definition_shape(place: Place, symbol: SymbolId, by_defvar: bool, count: u32) -> Shape
+    ensures { (args : Data) → count ≡ count_of args → result ≡ Program.definition_shape place symbol by_defvar args }
+{
+    if by_defvar && count == 1 {
+        return Shape::Leaf(Expanded::Form(CoreKind::Constant(Value::symbol(symbol))));
     }
+    if by_defvar && count == 2 {
+        return Shape::Setting(CoreKind::Defvar(symbol));
+    }
+    Shape::Wrong(NOT_BUILT, place)
 }
 
 /// What a list at top level is that defines a variable, where these are defined before it.
-fn defined_shape(place: Place, symbol: SymbolId, count: u32, known: &[SymbolId]) -> Shape
-    ensures { (s : Scope) (under : Data) → count ≡ count_of (behind 1 under) → result ≡ Program.top_shape s known.now place (Some symbol) under }
+fn defined_shape(
+    place: Place,
+    symbol: SymbolId,
+    by_defvar: bool,
+    count: u32,
+    known: &[SymbolId],
+) -> Shape
+    ensures { (s : Scope) (under : Data) → by_defvar ≡ Program.is_defvar (Program.built_in s.names (first_symbol_in under)) → count ≡ count_of (behind 1 under) → result ≡ Program.top_shape s known.now place (Some symbol) under }
 {
     if has(known, symbol) {
         return Shape::Wrong(DEFINED_TWICE, place);
@@ -194,7 +221,14 @@ fn defined_shape(place: Place, symbol: SymbolId, count: u32, known: &[SymbolId])
     if known.len() == MOST_SPECIALS {
         return Shape::Wrong(TOO_MANY, place);
     }
-    definition_shape(place, symbol, count)
+    definition_shape(place, symbol, by_defvar, count)
+}
+
+/// A form that is NIL.
+fn ignored() -> Shape
+    ensures { result ≡ Shape.Leaf (Expanded.Form (CoreKind.Constant nil)) }
+{
+    Shape::Leaf(Expanded::Form(CoreKind::Constant(Value::nil())))
 }
 
 /// What a list at top level is that defines no variable.
@@ -207,6 +241,9 @@ fn other_shape(
     ensures { IfOk result (λ shape. (known : List ℕ) → shape ≡ Program.top_shape (scope_in context.now) known place None under.now) }
 {
     let operator = operator_at(context, first_symbol(under));
+    if operator == Some(Operator::Ignored) {
+        return Ok(ignored());
+    }
     if operator == Some(Operator::LaterTop) {
         return Ok(wrong(NOT_BUILT, place));
     }
@@ -227,7 +264,13 @@ fn top_shape(
     ensures { IfOk result (λ shape. shape ≡ Program.top_shape (scope_in context.now) known.now place (Program.definition_in context.now.symbols.now under.now) under.now) }
 {
     match definition_in(context.symbols, under) {
-        Some(symbol) => Ok(defined_shape(place, symbol, arguments_of(under), known)),
+        Some(symbol) => Ok(defined_shape(
+            place,
+            symbol,
+            is_defvar(context.symbols, under),
+            arguments_of(under),
+            known,
+        )),
         None => other_shape(alloc, context, place, under),
     }
 }

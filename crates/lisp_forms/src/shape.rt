@@ -188,9 +188,11 @@ pub fn shape_led(
         Operator::Plus => Ok(sum_shape(place, arguments)),
         Operator::Times => Ok(product_shape(place, arguments)),
         Operator::Print if arguments.count() == 1 => Ok(Shape::Call(CoreKind::Print)),
-        Operator::Print | Operator::Defvar | Operator::LaterTop => {
-            Ok(Shape::Wrong(BAD_FORM, place))
-        }
+        Operator::Print
+        | Operator::Defvar
+        | Operator::Defparameter
+        | Operator::Ignored
+        | Operator::LaterTop => Ok(Shape::Wrong(BAD_FORM, place)),
         Operator::Later => Ok(Shape::Wrong(NOT_BUILT, place)),
     }
 }

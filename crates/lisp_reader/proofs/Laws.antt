@@ -7,7 +7,7 @@ use Rattle.lisp_reader.specs.DataCode.{data_back}
 use Rattle.lisp_reader.specs.Gathering.{Fault, Gathered, faulty}
 use Rattle.lisp_reader.specs.Grammar.{Items, data_in, spelled}
 use Rattle.lisp_reader.specs.Parts.{Part}
-use Rattle.lisp_reader.specs.Reading.{too_long, not_utf8, in_reading, OneReading, OneRefusal, ReadOrRefused}
+use Rattle.lisp_reader.specs.Reading.{too_long, not_utf8, in_reading, OneReading, OneRefusal, NeverBoth}
 use Rattle.lisp_reader.specs.Tables.{Tables}
 
 -- items that are spelled the same are the same data
@@ -25,10 +25,10 @@ one_reading bytes before after after' d e r s =
     )
 
 -- a text that is read is not refused
-pub read_or_refused : ReadOrRefused
-read_or_refused bytes before after after' d number place r (too_long long m p same) = absurd (omega (arith, r.text.short, long))
-read_or_refused bytes before after after' d number place r (not_utf8 short broken m p same) = absurd (broken r.text.utf8)
-read_or_refused bytes before after after' d number place r (in_reading text h) =
+pub never_both : NeverBoth
+never_both bytes before after after' d number place r (too_long long m p same) = absurd (omega (arith, r.text.short, long))
+never_both bytes before after after' d number place r (not_utf8 short broken m p same) = absurd (broken r.text.utf8)
+never_both bytes before after after' d number place r (in_reading text h) =
     let e = sym r.readable ∙ ap (λ (g : Gathered). g.fault) h in absurd (cc)
 
 -- the number of a fault

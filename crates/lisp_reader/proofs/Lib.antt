@@ -19,3 +19,4 @@ pub mod Few
 pub mod Ends
 pub mod Passes
 pub mod Beside
+pub mod Told

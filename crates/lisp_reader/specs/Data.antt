@@ -72,13 +72,13 @@ data_of (n ∷ ns) = begun n.kind n.place (data_of ns)
 abbrev pub AreWhole : List DatumNode → Type 0
 AreWhole nodes = written (data_of nodes) ≡ nodes
 
--- These nodes are those of one whole datum. They are no more than a text has room for.
+-- These nodes are those of one whole datum. They are fewer than 2^30, which is more than any text has.
 pub record IsDatum (nodes : List DatumNode) : Type 0 where
   pub whole : AreWhole nodes
   pub one : count_of (data_of nodes) ≡ 1
   pub short : length nodes < 2 ^ 30
 
--- These nodes are those of so many data. They are fewer than a text has room for.
+-- These nodes are those of so many data. They are fewer than 2^30, which is more than any text has.
 pub record AreItems (nodes : List DatumNode) (count : ℕ) : Type 0 where
   pub whole : AreWhole nodes
   pub many : count ≡ count_of (data_of nodes)

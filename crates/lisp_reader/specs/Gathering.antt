@@ -43,7 +43,7 @@ abbrev pub quote_name : (function : Bool) → List ℕ
 quote_name true = codes "FUNCTION"
 quote_name false = codes "QUOTE"
 
--- the list that a parenthesis closes: what was open around it, where it is one
+-- what is open behind a parenthesis that closes, where the innermost that is open is a list
 abbrev pub closed_by : List Opening → Option (List Opening)
 closed_by [] = None
 closed_by (AList p ∷ os) = Some os

@@ -1,4 +1,4 @@
--- What a text of the whole grammar holds, and the data that it is read as.
+-- What a text holds, and the data that it is read as.
 use Rattle.std.specs.Prelude.{ℕ, pos, List, [], ◌∷◌, ◌++◌, Bool}
 use Rattle.lisp_reader.specs.declared.datum.Leaf.{Leaf}
 use Rattle.lisp_reader.specs.declared.datum.Leaf.TheVariants.{Int, Symbol as SymbolLeaf, Text as TextLeaf, Time as TimeLeaf}

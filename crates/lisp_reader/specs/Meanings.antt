@@ -1,4 +1,4 @@
--- What a token means, in the whole grammar.
+-- What a token means.
 use Rattle.std.specs.Prelude.{ℕ, pos, neg_ℤ, ◌+◌, ◌-◌, ◌*◌, ◌^◌, List, Bool, not, ◌&&◌, ◌||◌, ◌==◌, if◌then◌else◌, nat_lt, nat_le, length, map, take, drop, get_or, codes}
 use Rattle.std.specs.Char.{is_ascii_digit, is_ascii_alphanumeric, to_ascii_uppercase}
 use Rattle.std.specs.List.{list_all, list_any, prefix_len}

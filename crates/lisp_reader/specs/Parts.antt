@@ -1,4 +1,4 @@
--- How a text of the whole grammar falls into parts: parentheses, quotes, string literals and tokens.
+-- How a text falls into parts: parentheses, quotes, string literals and tokens.
 use Rattle.std.specs.Prelude.{ℕ, suc, List, [], ◌∷◌, ◌++◌, Bool, true, false, ◌&&◌, ◌||◌, ◌==◌, if◌then◌else◌}
 
 -- space, tab, newline, carriage return and form feed separate

@@ -1,5 +1,5 @@
 -- What the reader says of a text.
-use Rattle.std.specs.Prelude.{◌≡◌, ℕ, ◌<◌, ◌≤◌, List, [], None, length}
+use Rattle.std.specs.Prelude.{◌≡◌, ◌⊎◌, ℕ, ◌<◌, ◌≤◌, List, [], None, length}
 use Rattle.std.specs.Str.{IsUtf8, IsValidUpTo}
 use Rattle.lisp_reader.specs.declared.refusal.ReadRefusal.{ReadRefusal}
 use Rattle.lisp_reader.specs.declared.refusal.ReadRefusal.TheVariants.{Refused, Memory}
@@ -48,8 +48,8 @@ OneReading =
     → (after ≡ after') × (d ≡ e)
 
 -- a text that is read is not refused
-abbrev pub ReadOrRefused : Type 0
-ReadOrRefused =
+abbrev pub NeverBoth : Type 0
+NeverBoth =
     (bytes : List ℕ) (before after after' : Tables) (d : List Data) (number place : ℕ) → Reads bytes before after d
     → IsRefused bytes before after' number place → ⊥
 
@@ -58,3 +58,20 @@ abbrev pub OneRefusal : Type 0
 OneRefusal =
     (bytes : List ℕ) (before after after' : Tables) (m n p q : ℕ) → IsRefused bytes before after m p → IsRefused bytes before after' n q
     → (m ≡ n) × (p ≡ q) × (after ≡ after')
+
+-- the text reads as some data
+pub record IsReadable (bytes : List ℕ) (before : Tables) : Type 0 where
+  pub after : Tables
+  pub read : List Data
+  pub reads : Reads bytes before after read
+
+-- the text is refused with some number at some place
+pub record IsRefusable (bytes : List ℕ) (before : Tables) : Type 0 where
+  pub after : Tables
+  pub number : ℕ
+  pub place : ℕ
+  pub refused : IsRefused bytes before after number place
+
+-- each text is read or refused
+abbrev pub ReadOrRefused : Type 0
+ReadOrRefused = (bytes : List ℕ) (before : Tables) → IsReadable bytes before ⊎ IsRefusable bytes before

@@ -22,13 +22,13 @@ pub enum Leaf {
 pub enum DatumKind {
     /// A list of so many items.
     List(u32),
-    /// An integer, from -2^62 to 2^62 - 1.
+    /// An integer: in data that were read, from -2^62 to 2^62 - 1.
     Int(i64),
     /// A symbol or a keyword.
     Symbol(SymbolId),
     /// A string literal.
     Text(StringId),
-    /// A time, up to 4,000,000,000 seconds.
+    /// A time: in data that were read, up to 4,000,000,000 seconds.
     Time(Micros),
 }
 

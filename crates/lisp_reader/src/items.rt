@@ -54,7 +54,7 @@ impl<'a> Items<'a> {
         self.count
     }
 
-    /// There are fewer than a text has room for.
+    /// There are fewer than 2^30, which is more than any text has.
     pub fn are_few(&self)
         ensures { count_of self.now < 2 ^ 30 }
     {

@@ -1,4 +1,4 @@
-//! What the tokens of the whole grammar mean.
+//! What tokens mean.
 ghost use Rattle.std.specs.Prelude.{◌≡◌, ◌≤◌, IsTrue, drop, get_or, length, min};
 ghost use Rattle.std.specs.Char.{is_ascii_digit};
 ghost use Rattle.std.specs.List.{list_all};

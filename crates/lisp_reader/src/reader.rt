@@ -1,6 +1,6 @@
 ghost use Rattle.std.specs.Prelude.{◌≡◌, IfOk};
 ghost use Rattle.std.specs.Result.{IfErr};
-ghost use Rattle.lisp_reader.specs.Reading.{IsRefusal, OneReading, OneRefusal, ReadOrRefused, Reads};
+ghost use Rattle.lisp_reader.specs.Reading.{IsRefusal, NeverBoth, OneReading, OneRefusal, ReadOrRefused, Reads};
 ghost use Rattle.lisp_reader.specs.Tables.{tables_of};
 
 use crate::build::nodes_of;
@@ -40,14 +40,19 @@ pub fn read_program(
     Ok(data)
 }
 
-/// A text has at most one reading. There is nothing to run: the clause is the law, as in the two below.
+/// A text has at most one reading. There is nothing to run: the clause is the law, as in the three below.
 pub fn one_reading()
     ensures { OneReading }
 {}
 
-/// A text that is read is not refused.
+/// Each text is read or refused.
 pub fn read_or_refused()
     ensures { ReadOrRefused }
+{}
+
+/// A text that is read is not refused.
+pub fn never_both()
+    ensures { NeverBoth }
 {}
 
 /// A text is refused with one number at one place.

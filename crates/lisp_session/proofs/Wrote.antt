@@ -2,10 +2,10 @@
 use Rattle.std.proofs.Common.{◌≡◌, ℕ, ◌<◌, ◌≤◌, inl, inr, List, [], ◌∷◌, ◌++◌, Bool, true, false, Option, Some, None, ◌==◌, length, length-append, refl, ap, sym, subst, ◌∙◌, arith}
 use Rattle.std.specs.Io.KnownBytes.{Appends, Keeps}
 use Rattle.lisp_edge.specs.Faults.{Rose}
-use Rattle.lisp_reader.specs.Reading.{too_long, not_utf8, in_reading, OneReading, ReadOrRefused, longest}
+use Rattle.lisp_reader.specs.Reading.{too_long, not_utf8, in_reading, longest}
 use Rattle.lisp_reader.specs.Tables.{Tables}
 use Rattle.lisp_forms.specs.Program.{IsRefused as IsRefusedForms}
-use Rattle.lisp_session.specs.Programs.{Reads, IsRefused, as_text, as_data, first_tables}
+use Rattle.lisp_session.specs.Programs.{NeverBoth, Reads, IsRefused, as_text, as_data}
 use Rattle.lisp_program.specs.Program.{Program}
 use Rattle.lisp_journal.specs.Refusal.{words_line}
 use Rattle.lisp_session.specs.Headline.{are_accepted, IsWhole, IsRunText, IsRefusedText, IsAnswer, of_a_run, of_a_refusal, of_words, WroteFront, IsRunStatus, CausesRun, CausesRefusal, CausesRefusedWords}
@@ -56,19 +56,6 @@ whole_refused : (all rest bytes : List ℕ) (number place : ℕ) → all ≡ byt
     → IsRefused all number place
 whole_refused all rest bytes number place e none refused =
     subst (λ t. IsRefused t number place) (sym (e ∙ ap (λ t. bytes ++ t) none ∙ append-nil bytes)) refused
-
--- no bytes are both a program and refused
-never_both : OneReading → ReadOrRefused → (bytes : List ℕ) (tables : Tables) (program : Program) (number place : ℕ) → Reads bytes tables program
-    → IsRefused bytes number place → ⊥
-never_both one never bytes tables program number place r (as_text tables' refused) =
-    never bytes first_tables tables tables' r.read number place r.reads refused
-never_both one never bytes tables program number place r (as_data tables' read reads found) =
-    let same = one bytes first_tables tables tables' r.read read r.reads reads in
-    let found' : IsRefusedForms tables.symbols r.read number place =
-    subst (λ d. IsRefusedForms tables.symbols d number place) (sym same.1)
-    (subst (λ (t : Tables). IsRefusedForms t.symbols read number place) (sym same.0) found) in
-    let none : None ≡ Some (record { number = number; place = place }) = sym r.expands.accepted ∙ found' in
-    cc
 
 -- why the bytes are refused is why all that was left is
 is_refused : (left left' : Option (List ℕ)) (bytes : List ℕ) (number place : ℕ) → IsRead longest left left' bytes
@@ -125,32 +112,32 @@ both : (b : Bool) → b ≡ true → b ≡ false → ⊥
 both b t f = cc
 
 -- a program that the source tells is run where neither end fails
-pub completes : OneReading → ReadOrRefused → (accepted : Bool) (left left' : Option (List ℕ)) (reads reads' : ℕ) (held held' : Option (List ℕ)) (writes writes' : ℕ) (outcome : Outcome)
+pub completes : NeverBoth → (accepted : Bool) (left left' : Option (List ℕ)) (reads reads' : ℕ) (held held' : Option (List ℕ)) (writes writes' : ℕ) (outcome : Outcome)
     → EndsAs accepted left left' reads reads' held held' writes writes' outcome → CausesRun accepted left reads reads' writes writes' (number_of outcome)
-completes one never accepted left left' reads reads' held held' writes writes' (Ran status) h = λ bytes tables program a e read no_read no_write. inl h.2
-completes one never accepted left left' reads reads' held held' writes writes' RefusedWords h = λ bytes tables program a e read no_read no_write. absurd (both accepted a h.0)
-completes one never accepted left left' reads reads' held held' writes writes' Refused h = λ bytes tables program a e read no_read no_write.
-    let refused : IsRefusedText (Some bytes) h.1.number h.1.place = rw e at h.1.source in absurd (never_both one never bytes tables program h.1.number h.1.place read refused)
-completes one never accepted left left' reads reads' held held' writes writes' ReadFault h = λ bytes tables program a e read no_read no_write. absurd (no_read h.1)
-completes one never accepted left left' reads reads' held held' writes writes' WriteFault h = λ bytes tables program a e read no_read no_write. absurd (no_write h.0)
-completes one never accepted left left' reads reads' held held' writes writes' Memory h = λ bytes tables program a e read no_read no_write. inr refl
+completes never accepted left left' reads reads' held held' writes writes' (Ran status) h = λ bytes tables program a e read no_read no_write. inl h.2
+completes never accepted left left' reads reads' held held' writes writes' RefusedWords h = λ bytes tables program a e read no_read no_write. absurd (both accepted a h.0)
+completes never accepted left left' reads reads' held held' writes writes' Refused h = λ bytes tables program a e read no_read no_write.
+    let refused : IsRefusedText (Some bytes) h.1.number h.1.place = rw e at h.1.source in absurd (never bytes tables program h.1.number h.1.place read refused)
+completes never accepted left left' reads reads' held held' writes writes' ReadFault h = λ bytes tables program a e read no_read no_write. absurd (no_read h.1)
+completes never accepted left left' reads reads' held held' writes writes' WriteFault h = λ bytes tables program a e read no_read no_write. absurd (no_write h.0)
+completes never accepted left left' reads reads' held held' writes writes' Memory h = λ bytes tables program a e read no_read no_write. inr refl
 
 whole_told : (all bytes : List ℕ) (left' : Option (List ℕ)) → IsWhole (Some all) left' bytes → bytes ≡ all
 whole_told all bytes None h = absurd h
 whole_told all bytes (Some rest) h = h.0
 
 -- another text that the source tells is refused where neither end fails
-pub refuses : OneReading → ReadOrRefused → (accepted : Bool) (left left' : Option (List ℕ)) (reads reads' : ℕ) (held held' : Option (List ℕ)) (writes writes' : ℕ) (outcome : Outcome)
+pub refuses : NeverBoth → (accepted : Bool) (left left' : Option (List ℕ)) (reads reads' : ℕ) (held held' : Option (List ℕ)) (writes writes' : ℕ) (outcome : Outcome)
     → EndsAs accepted left left' reads reads' held held' writes writes' outcome → CausesRefusal accepted left reads reads' writes writes' (number_of outcome)
-refuses one never accepted left left' reads reads' held held' writes writes' (Ran status) h = λ bytes number place a e refused no_read no_write.
+refuses never accepted left left' reads reads' held held' writes writes' (Ran status) h = λ bytes number place a e refused no_read no_write.
     let whole : IsWhole (Some bytes) left' h.1.bytes = rw e at h.1.source in
     let read : Reads bytes h.1.run.tables h.1.run.program = subst (λ t. Reads t h.1.run.tables h.1.run.program) (whole_told bytes h.1.bytes left' whole) h.1.run.reads in
-    absurd (never_both one never bytes h.1.run.tables h.1.run.program number place read refused)
-refuses one never accepted left left' reads reads' held held' writes writes' RefusedWords h = λ bytes number place a e refused no_read no_write. absurd (both accepted a h.0)
-refuses one never accepted left left' reads reads' held held' writes writes' Refused h = λ bytes number place a e refused no_read no_write. inl refl
-refuses one never accepted left left' reads reads' held held' writes writes' ReadFault h = λ bytes number place a e refused no_read no_write. absurd (no_read h.1)
-refuses one never accepted left left' reads reads' held held' writes writes' WriteFault h = λ bytes number place a e refused no_read no_write. absurd (no_write h.0)
-refuses one never accepted left left' reads reads' held held' writes writes' Memory h = λ bytes number place a e refused no_read no_write. inr refl
+    absurd (never bytes h.1.run.tables h.1.run.program number place read refused)
+refuses never accepted left left' reads reads' held held' writes writes' RefusedWords h = λ bytes number place a e refused no_read no_write. absurd (both accepted a h.0)
+refuses never accepted left left' reads reads' held held' writes writes' Refused h = λ bytes number place a e refused no_read no_write. inl refl
+refuses never accepted left left' reads reads' held held' writes writes' ReadFault h = λ bytes number place a e refused no_read no_write. absurd (no_read h.1)
+refuses never accepted left left' reads reads' held held' writes writes' WriteFault h = λ bytes number place a e refused no_read no_write. absurd (no_write h.0)
+refuses never accepted left left' reads reads' held held' writes writes' Memory h = λ bytes number place a e refused no_read no_write. inr refl
 
 -- words that are not accepted are refused where the sink does not fail
 pub refuses_words : (accepted : Bool) (left left' : Option (List ℕ)) (reads reads' : ℕ) (held held' : Option (List ℕ)) (writes writes' : ℕ) (outcome : Outcome)

@@ -1,5 +1,5 @@
 -- Which texts are programs, and why others are refused.
-use Rattle.std.specs.Prelude.{ℕ, List, []}
+use Rattle.std.specs.Prelude.{◌≡◌, ◌⊎◌, ℕ, List, []}
 use Rattle.symbol_table.specs.Names.{first_symbols}
 use Rattle.lisp_program.specs.Program.{Program}
 use Rattle.lisp_reader.specs.Data.{Data}
@@ -22,3 +22,31 @@ pub data IsRefused (bytes : List ℕ) (number place : ℕ) : Type 0 where
   as_text : (tables : Tables) → IsRefusedText bytes first_tables tables number place → IsRefused bytes number place
   as_data : (tables : Tables) (read : List Data) → ReadsData bytes first_tables tables read → IsRefusedData tables.symbols read number place
       → IsRefused bytes number place
+
+-- the bytes are some program
+pub record IsProgram (bytes : List ℕ) : Type 0 where
+  pub tables : Tables
+  pub program : Program
+  pub reads : Reads bytes tables program
+
+-- the bytes are refused with some number at some place
+pub record IsNoProgram (bytes : List ℕ) : Type 0 where
+  pub number : ℕ
+  pub place : ℕ
+  pub refused : IsRefused bytes number place
+
+-- all bytes are a program or are refused
+abbrev pub ProgramOrRefused : Type 0
+ProgramOrRefused = (bytes : List ℕ) → IsProgram bytes ⊎ IsNoProgram bytes
+
+-- bytes are at most one program
+abbrev pub OneProgram : Type 0
+OneProgram = (bytes : List ℕ) (t u : Tables) (p q : Program) → Reads bytes t p → Reads bytes u q → (t ≡ u) × (p ≡ q)
+
+-- bytes are refused with one number at one place
+abbrev pub OneRefusal : Type 0
+OneRefusal = (bytes : List ℕ) (m n p q : ℕ) → IsRefused bytes m p → IsRefused bytes n q → (m ≡ n) × (p ≡ q)
+
+-- no bytes are both
+abbrev pub NeverBoth : Type 0
+NeverBoth = (bytes : List ℕ) (tables : Tables) (program : Program) (number place : ℕ) → Reads bytes tables program → IsRefused bytes number place → ⊥

@@ -7,13 +7,13 @@ ghost use Rattle.lisp_session.specs.Headline.{Headline, RefusedProgram, WroteFro
 
 use crate::answer::{Answer, answer_to};
 use crate::input::{ReadFailure, read_text};
+use crate::laws::never_both;
 use crate::output::write_text;
 use lisp_edge::clock::Clock;
 use lisp_edge::gate::Gate;
 use lisp_edge::sink::Sink;
 use lisp_edge::source::Source;
 use lisp_journal::refusal::refused_words;
-use lisp_reader::reader::{one_reading, read_or_refused};
 use std::alloc::Global;
 
 /// How a top call ends.
@@ -150,9 +150,8 @@ pub fn run_one<S: Source, K: Sink, C: Clock>(
     ensures source_later { S.faults source.old ≤ S.faults source.new }
     ensures sink_later { K.faults sink.old ≤ K.faults sink.new }
 {
-    // The laws that no text is both read and refused, and none is read in two ways, on which `complete` and `refuses` rest.
-    one_reading();
-    read_or_refused();
+    // The law that no bytes are both a program and refused, on which `complete` and `refuses` rest.
+    never_both();
     status_of(answer_call(alloc, words, source, sink))
 }
 

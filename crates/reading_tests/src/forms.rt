@@ -18,8 +18,8 @@ fn print_named(
     symbol: SymbolId,
     tables: &Tables,
 ) -> Result<(), AllocError> {
-    let name = tables.symbols.name(symbol).unwrap_or("no name");
-    write!(printed, "{word}{name}")
+    printed.push_str(word)?;
+    printed.push_str(tables.symbols.name(symbol).unwrap_or("no name"))
 }
 
 /// Puts the kind of a form behind a text.
@@ -87,7 +87,7 @@ fn forms_are_expanded(rt: HostRuntime) -> Result<(), Fail> {
     check(
         &rt,
         rt.alloc(),
-        r#"cases: 32
+        r#"cases: 33
 ‹› => ‹›
 1 => 1@0
 "a" 1.5 => "a"@0, 1.500000@4
@@ -119,6 +119,7 @@ x (defvar x) => special X@0, X@2
 (defvar a) (let ((a 1)) a) => A@0, let@11/2, 1@20, bind A 0@11/1, special A@24
 (defvar a) (let (a) a) => A@0, let@11/2, NIL@17, bind A 0@11/1, special A@20
 (defvar a) (let ((a)) a) => A@0, let@11/2, NIL@17, bind A 0@11/1, special A@22
+(in-package :cl-user) (declaim (speed 3)) 1 => NIL@0, NIL@22, 1@42
 (defvar a) (defvar b) (let ((a 1) b) 2 3) => A@0, B@11, let@22/3, 1@31, NIL@34, bind A 1@22/1, bind B 0@22/2, 2@37, 3@39
 "#,
         Told::Forms,
@@ -130,7 +131,7 @@ fn programs_are_refused(rt: HostRuntime) -> Result<(), Fail> {
     check(
         &rt,
         rt.alloc(),
-        r#"cases: 60
+        r#"cases: 65
 -- heads that are no operators
 () => refusal 11 at 0
 (1 2) => refusal 11 at 0
@@ -174,6 +175,8 @@ fn programs_are_refused(rt: HostRuntime) -> Result<(), Fail> {
 -- forms of the top level elsewhere
 (progn (defvar *x* 1)) => refusal 12 at 7
 (print (defun f () 1)) => refusal 12 at 7
+(progn (in-package :cl-user)) => refusal 12 at 7
+(defparameter *x*) => refusal 12 at 0
 -- symbols that are no variables
 x => refusal 13 at 0
 (print x) => refusal 13 at 7
@@ -183,6 +186,7 @@ x => refusal 13 at 0
 (print *x*) (defvar *x* 1 2) => refusal 13 at 7
 -- twice
 (defvar *x* 1) (defvar *x* 2) => refusal 18 at 15
+(defvar *x* 1) (defparameter *x* 2) => refusal 18 at 15
 (defvar a) (let (a (a 1)) 1) => refusal 18 at 11
 (let ((x 1) (x (foo))) 1) => refusal 18 at 0
 -- what is not built yet
@@ -193,6 +197,8 @@ x => refusal 13 at 0
 (defvar a) (setq a 1 a 2) => refusal 10 at 11
 (defvar *x* 1 "what it is") => refusal 10 at 0
 (defun f () 1) (f) => refusal 10 at 0
+(defparameter *x* 1) (print *x*) => refusal 10 at 0
+(print *x*) (defparameter *x* 1 "what it is") => refusal 10 at 12
 (f) (defun f () 1) => refusal 10 at 0
 -- which one is told
 (if 1 2 3) (print) => refusal 12 at 11

@@ -110,54 +110,66 @@ impl Tables {
         Ok(literals)
     }
 
-    /// Puts a node behind a text, with its place. A list stays open.
+    /// Puts what a node says behind a text. A list stays open.
     fn print_node(&self, printed: &mut String, node: &DatumNode) -> Result<(), AllocError> {
-        let place = node.place.0;
         match node.kind {
-            DatumKind::List(_) => write!(printed, "(@{place}"),
-            DatumKind::Int(number) => write!(printed, "{number}@{place}"),
-            DatumKind::Time(Micros(micros)) => write!(printed, "{micros}u@{place}"),
+            DatumKind::List(_) => printed.push('('),
+            DatumKind::Int(number) => write!(printed, "{number}"),
+            DatumKind::Time(Micros(micros)) => write!(printed, "{micros}u"),
             DatumKind::Symbol(id) => {
-                let name = self.symbols.name(id).unwrap_or("no name");
-                write!(printed, "{name}@{place}")
+                printed.push_str(self.symbols.name(id).unwrap_or("no name"))
             }
             DatumKind::Text(id) => {
                 let text = self.texts.text(id).unwrap_or("no text");
-                write!(printed, "\"{text}\"@{place}")
+                write!(printed, "\"{text}\"")
             }
         }
+    }
+
+    /// Puts a datum behind a text: each node with its place, and a list closed behind its last.
+    fn print_datum(
+        &self,
+        printed: &mut String,
+        nodes: &[DatumNode],
+        open: &mut Vec<u32>,
+    ) -> Result<(), AllocError> {
+        for node in nodes {
+            if !printed.is_empty() {
+                printed.push(' ')?;
+            }
+            self.print_node(printed, node)?;
+            let place = node.place.0;
+            write!(printed, "@{place}")?;
+            for _ in 0..lists_ended(open, node)? {
+                printed.push(')')?;
+            }
+        }
+        Ok(())
     }
 
     /// Data as text: each node with its place, `'a` as `(@0 QUOTE@0 A@1)`.
     fn printed(&self, alloc: Global, data: &[Datum]) -> Result<String, AllocError> {
         let mut printed = String::new(alloc);
+        let mut open = Vec::new(alloc);
         for datum in data {
-            // how many items are still to come in each list that is open
-            let mut to_come = Vec::new(alloc);
-            for node in datum.nodes() {
-                if !printed.is_empty() {
-                    printed.push(' ')?;
-                }
-                if let Some(count) = to_come.last_mut() {
-                    *count = u32::saturating_sub(*count, 1);
-                }
-                self.print_node(&mut printed, node)?;
-                if let DatumKind::List(count) = node.kind {
-                    to_come.push(count)?;
-                }
-                let ended = to_come
-                    .iter()
-                    .rev()
-                    .take_while(|count| **count == 0)
-                    .count();
-                to_come.truncate(to_come.len().saturating_sub(ended));
-                for _ in 0..ended {
-                    printed.push(')')?;
-                }
-            }
+            open.clear();
+            self.print_datum(&mut printed, datum.nodes(), &mut open)?;
         }
         Ok(printed)
     }
+}
+
+/// How many lists a node ends. Of each list that is open it is kept how many items are still to come.
+fn lists_ended(open: &mut Vec<u32>, node: &DatumNode) -> Result<usize, AllocError> {
+    if let Some(count) = open.last_mut() {
+        *count = u32::saturating_sub(*count, 1);
+    }
+    if let DatumKind::List(count) = node.kind {
+        open.push(count)?;
+    }
+    let ended = open.iter().rev().take_while(|count| **count == 0).count();
+    open.truncate(open.len().saturating_sub(ended));
+    Ok(ended)
 }
 
 /// How many nodes data have.

@@ -129,15 +129,10 @@ fn push_plain(bytes: &mut Vec<u8>, plain: &str, number: u32) -> Result<(), Fail>
     Ok(())
 }
 
-/// The character that a picture stands for. Any other stands for itself.
+/// The character that a picture stands for: those from U+2400 on show the characters from 0 to the blank. Any other stands for itself.
 fn meant_by(character: char) -> char {
-    match character {
-        '␉' => '\t',
-        '␊' => '\n',
-        '␋' => '\u{b}',
-        '␌' => '\u{c}',
-        '␍' => '\r',
-        '␠' => ' ',
+    match u32::from(character).checked_sub(0x2400) {
+        Some(code) if code <= 0x20 => char::from_u32(code).unwrap_or(character),
         _ => character,
     }
 }

@@ -1,0 +1,17 @@
+//! Tests of the reader and of the expander, as tables of texts. They stand apart from `library_tests` so that two processors can check the tests.
+#![tactic(auto)]
+
+#[cfg(test)]
+mod cases;
+#[cfg(test)]
+mod forms;
+#[cfg(test)]
+mod programs;
+#[cfg(test)]
+mod refused_texts;
+#[cfg(test)]
+mod tables;
+#[cfg(test)]
+mod tokens;
+#[cfg(test)]
+mod used_names;
