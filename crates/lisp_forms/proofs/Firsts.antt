@@ -6,9 +6,10 @@ use Rattle.lisp_reader.specs.declared.items.First.{First}
 use Rattle.lisp_reader.specs.declared.items.First.TheVariants.{Leaf as LeafFirst, List as ListFirst}
 use Rattle.lisp_reader.specs.Data.{Data, NoData, Atom, Listed, behind, count_of as data_in}
 use Rattle.lisp_reader.specs.First.{with_first}
+use Rattle.lisp_forms.specs.One.{bound_value, first_form}
 use Rattle.lisp_forms.specs.declared.shape.Shape.{Shape}
 use Rattle.lisp_forms.specs.declared.shape.Shape.TheVariants.{Wrong, Leaf, Call, Sum, Setting, Binding}
-use Rattle.lisp_forms.specs.Expansion.{Expansion, alone, bound_value, first_form, forms_behind, forms_behind_two, forms_in, let_form, let_variables, list_form, sum_form, values_behind, values_in}
+use Rattle.lisp_forms.specs.Expansion.{Expansion, alone, forms_behind, forms_behind_two, forms_in, let_form, let_variables, list_form, sum_form, values_behind, values_in}
 use Rattle.lisp_forms.specs.Flat.{flat}
 use Rattle.lisp_forms.specs.Shapes.{Scope, constant, shape_of}
 use Rattle.lisp_forms.specs.Sizes.{size_of}

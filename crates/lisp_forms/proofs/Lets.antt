@@ -7,8 +7,9 @@ use Rattle.lisp_reader.specs.declared.items.First.{First}
 use Rattle.lisp_reader.specs.declared.items.First.TheVariants.{Leaf as LeafFirst, List as ListFirst}
 use Rattle.lisp_reader.specs.Data.{Data, NoData, Atom, Listed, count_of as data_in}
 use Rattle.lisp_reader.specs.First.{with_first}
+use Rattle.lisp_forms.specs.One.{count_under, first_values}
 use Rattle.lisp_forms.specs.declared.expanded.Expanded.TheVariants.{Form}
-use Rattle.lisp_forms.specs.Expansion.{Expansion, binds, count_under, first_values, forms_behind, let_form, let_variables, value_form, values_first, values_in}
+use Rattle.lisp_forms.specs.Expansion.{Expansion, binds, forms_behind, let_form, let_variables, value_form, values_first, values_in}
 use Rattle.lisp_forms.specs.Flat.{bind_nodes, flat, node}
 use Rattle.lisp_forms.specs.Shapes.{Scope, and_others, bound_in, bound_in_list, first_symbol, leaf_symbol}
 use Rattle.lisp_forms.proofs.Trees.{count-joined, flat-binds, flat-joined}

@@ -7,10 +7,11 @@ use Rattle.lisp_program.specs.declared.form.CoreKind.TheVariants.{Constant, Let,
 use Rattle.lisp_reader.specs.declared.items.First.{First}
 use Rattle.lisp_reader.specs.Data.{Data, count_of as data_in}
 use Rattle.lisp_reader.specs.First.{with_first}
+use Rattle.lisp_forms.specs.One.{bound_value, count_under, first_form, first_values}
 use Rattle.lisp_forms.specs.declared.expanded.Expanded.{Expanded}
 use Rattle.lisp_forms.specs.declared.expanded.Expanded.TheVariants.{Form}
 use Rattle.lisp_forms.specs.declared.expanded.ExpandedNode.{ExpandedNode}
-use Rattle.lisp_forms.specs.Expansion.{Expansion, bound_value, count_under, first_form, first_values, forms_behind, forms_in, let_form, let_variables, sum_form, value_form, values_first, values_in}
+use Rattle.lisp_forms.specs.Expansion.{Expansion, forms_behind, forms_in, let_form, let_variables, sum_form, value_form, values_first, values_in}
 use Rattle.lisp_forms.specs.Flat.{bind_nodes, flat, node, repeated}
 use Rattle.lisp_forms.specs.Shapes.{Scope, constant}
 use Rattle.lisp_forms.proofs.Trees.{flat-sum_more, flat-sum_one, plus}

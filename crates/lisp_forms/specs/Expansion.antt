@@ -4,9 +4,7 @@ use Rattle.lisp_base.specs.Forest.{Forest, NoTrees, Tree, joined}
 use Rattle.lisp_base.specs.declared.value.Node.TheVariants.{Int as AnInt}
 use Rattle.lisp_program.specs.Points.{nil}
 use Rattle.lisp_program.specs.declared.form.CoreKind.TheVariants.{Constant, Plus, Progn, Let, Bind}
-use Rattle.lisp_reader.specs.Data.{Data, NoData, Atom, Listed, behind, count_of as data_in}
-use Rattle.lisp_reader.specs.declared.items.First.{First}
-use Rattle.lisp_reader.specs.declared.items.First.TheVariants.{Leaf as LeafFirst, List as ListFirst}
+use Rattle.lisp_reader.specs.Data.{Data, NoData, Atom, Listed, behind}
 use Rattle.lisp_forms.specs.declared.expanded.Expanded.{Expanded}
 use Rattle.lisp_forms.specs.declared.expanded.Expanded.TheVariants.{Form, Refused}
 use Rattle.lisp_forms.specs.declared.shape.Shape.{Shape}
@@ -99,24 +97,3 @@ abbrev mutual
   values_in s NoData = NoTrees
   values_in s (Atom leaf p beside) = Tree (Form (Constant nil)) p NoTrees (values_in s beside)
   values_in s (Listed p under beside) = joined (value_form p (forms_behind s under)) (values_in s beside)
-
--- one as a form
-abbrev pub first_form : Scope → First → Expansion
-first_form s (LeafFirst leaf p) = alone (leaf_form s leaf) p
-first_form s (ListFirst p under) =
-    list_form p (shape_of s p under) (forms_behind s under) (forms_behind_two s under) (values_behind s under) (let_variables (behind 1 under))
-
--- the value of one binding
-abbrev pub bound_value : Scope → First → Expansion
-bound_value s (LeafFirst leaf p) = alone (Form (Constant nil)) p
-bound_value s (ListFirst p under) = value_form p (forms_behind s under)
-
--- the values of the bindings that one holds
-abbrev pub first_values : Scope → First → Expansion
-first_values s (LeafFirst leaf p) = NoTrees
-first_values s (ListFirst p under) = values_in s under
-
--- how many data are in the list that one is
-abbrev pub count_under : First → ℕ
-count_under (LeafFirst leaf p) = 0
-count_under (ListFirst p under) = data_in under

@@ -11,8 +11,6 @@ use Rattle.lisp_program.specs.declared.form.CoreKind.TheVariants.{Constant, Defv
 use Rattle.lisp_reader.specs.Data.{Data, NoData, Atom, Listed, behind, count_of}
 use Rattle.lisp_reader.specs.declared.datum.Leaf.{Leaf}
 use Rattle.lisp_reader.specs.declared.datum.Leaf.TheVariants.{Int, Symbol, Text, Time}
-use Rattle.lisp_reader.specs.declared.items.First.{First}
-use Rattle.lisp_reader.specs.declared.items.First.TheVariants.{Leaf as LeafFirst, List as ListFirst}
 use Rattle.lisp_forms.specs.declared.expanded.Expanded.{Expanded}
 use Rattle.lisp_forms.specs.declared.expanded.Expanded.TheVariants.{Form, Refused}
 use Rattle.lisp_forms.specs.declared.expander.Refusal.{Refusal}
@@ -170,13 +168,6 @@ abbrev pub top_form : Scope → List ℕ → Data → Expansion
 top_form s known NoData = NoTrees
 top_form s known (Atom leaf p beside) = alone (leaf_form s leaf) p
 top_form s known (Listed p under beside) =
-    list_form p (top_shape s known p (definition_in s.names under) under) (forms_behind s under) (forms_behind_two s under) (values_behind s under)
-    (let_variables (behind 1 under))
-
--- one as a form at top level
-abbrev pub top_first : Scope → List ℕ → First → Expansion
-top_first s known (LeafFirst leaf p) = alone (leaf_form s leaf) p
-top_first s known (ListFirst p under) =
     list_form p (top_shape s known p (definition_in s.names under) under) (forms_behind s under) (forms_behind_two s under) (values_behind s under)
     (let_variables (behind 1 under))
 

@@ -9,8 +9,6 @@ use Rattle.lisp_program.specs.declared.form.CoreKind.TheVariants.{Constant as Co
 use Rattle.lisp_reader.specs.Data.{Data, NoData, Atom, Listed, behind, count_of}
 use Rattle.lisp_reader.specs.declared.datum.Leaf.{Leaf}
 use Rattle.lisp_reader.specs.declared.datum.Leaf.TheVariants.{Int, Symbol, Text, Time}
-use Rattle.lisp_reader.specs.declared.items.First.{First}
-use Rattle.lisp_reader.specs.declared.items.First.TheVariants.{Leaf as LeafFirst, List as ListFirst}
 use Rattle.lisp_forms.specs.declared.expanded.Expanded.{Expanded}
 use Rattle.lisp_forms.specs.declared.expanded.Expanded.TheVariants.{Form, Refused}
 use Rattle.lisp_forms.specs.declared.operator.Operator.{Operator}
@@ -125,11 +123,6 @@ abbrev pub and_others : Option ℕ → Option (List ℕ) → Option (List ℕ)
 and_others None others = None
 and_others (Some x) None = None
 and_others (Some x) (Some xs) = Some (x ∷ xs)
-
--- the variable that the first of several bindings binds
-abbrev pub bound_by : First → Option ℕ
-bound_by (LeafFirst leaf p) = leaf_symbol leaf
-bound_by (ListFirst p under) = bound_in_list under
 
 -- the variables of these bindings, where all have their shape
 abbrev pub bound_in : Data → Option (List ℕ)

@@ -1,6 +1,7 @@
 ghost use Rattle.std.specs.Prelude.{◌≡◌, ◌++◌, ◌∷◌, ◌<◌, ◌^◌, [], pos, length, IfOk, OnOk};
+ghost use Rattle.lisp_forms.specs.One.{bound_value, count_under, first_form, first_values};
 ghost use Rattle.lisp_forms.specs.Contexts.{scope_in};
-ghost use Rattle.lisp_forms.specs.Expansion.{bound_value, count_under, first_form, first_values, forms_behind, forms_in, let_form, let_variables, list_form, sum_form, value_form, values_first, values_in};
+ghost use Rattle.lisp_forms.specs.Expansion.{forms_behind, forms_in, let_form, let_variables, list_form, sum_form, value_form, values_first, values_in};
 ghost use Rattle.lisp_forms.specs.Flat.{bind_nodes, flat, node, repeated};
 ghost use Rattle.lisp_forms.specs.Shapes.{constant as constant_of};
 

@@ -1,4 +1,5 @@
 ghost use Rattle.std.specs.Prelude.{◌≡◌, ◌++◌, [], ℕ, List, Some, None, OnOk, IfOk};
+ghost use Rattle.lisp_forms.specs.One.{top_first};
 ghost use Rattle.lisp_forms.specs.Contexts.{scope_in};
 ghost use Rattle.lisp_forms.specs.Flat.{flat};
 ghost use Rattle.lisp_forms.specs.Program;
@@ -294,7 +295,7 @@ fn push_top_list(
     under: Items,
     nodes: &mut Vec<ExpandedNode>,
 ) -> Result<(), Memory>
-    ensures { OnOk result (nodes.new.items ≡ nodes.old.items ++ flat (Program.top_first (scope_in context.now) known.now (First.List place under.entry))) }
+    ensures { OnOk result (nodes.new.items ≡ nodes.old.items ++ flat (top_first (scope_in context.now) known.now (First.List place under.entry))) }
 {
     match under.split_first() {
         None => push_node(Expanded::Refused(UNKNOWN_OPERATOR), place, 0, nodes),

@@ -1,5 +1,6 @@
 ghost use Rattle.std.specs.Prelude.{◌≡◌, IfOk};
 ghost use Rattle.std.specs.List.{list_all};
+ghost use Rattle.lisp_forms.specs.One.{bound_by};
 ghost use Rattle.lisp_forms.specs.Contexts.{is_told, scope_in};
 ghost use Rattle.lisp_forms.specs.Shapes;
 
@@ -25,7 +26,7 @@ fn bound_in_list(under: &Items) -> Option<SymbolId>
 
 /// The variable that a binding binds.
 fn bound_by(first: &First) -> Option<SymbolId>
-    ensures { result ≡ Shapes.bound_by first.now }
+    ensures { result ≡ bound_by first.now }
 {
     match first {
         First::Leaf(leaf, _) => leaf_symbol(*leaf),

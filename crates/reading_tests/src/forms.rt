@@ -127,11 +127,11 @@ x (defvar x) => special X@0, X@2
 }
 
 #[test]
-fn programs_are_refused(rt: HostRuntime) -> Result<(), Fail> {
+fn programs_are_refused_for_their_shapes(rt: HostRuntime) -> Result<(), Fail> {
     check(
         &rt,
         rt.alloc(),
-        r#"cases: 65
+        r#"cases: 38
 -- heads that are no operators
 () => refusal 11 at 0
 (1 2) => refusal 11 at 0
@@ -172,6 +172,17 @@ fn programs_are_refused(rt: HostRuntime) -> Result<(), Fail> {
 (defvar *current-thread* 1) => refusal 12 at 0
 (defvar *x* 1 2) => refusal 12 at 0
 (defvar *x* 1 "a" 2) => refusal 12 at 0
+"#,
+        Told::Forms,
+    )
+}
+
+#[test]
+fn programs_are_refused_for_their_names(rt: HostRuntime) -> Result<(), Fail> {
+    check(
+        &rt,
+        rt.alloc(),
+        r#"cases: 27
 -- forms of the top level elsewhere
 (progn (defvar *x* 1)) => refusal 12 at 7
 (print (defun f () 1)) => refusal 12 at 7
