@@ -3,7 +3,7 @@ use Rattle.std.proofs.Common.{◌≡◌, ℕ, zero, suc, ◌+◌, ◌<◌, ◌�
 use Rattle.std.proofs.lemmas.Bool.Decides.{nat_tests}
 use Rattle.std.specs.Prelude.{unwrap_or}
 use Rattle.lisp_base.specs.declared.value.Node.{Node}
-use Rattle.lisp_program.specs.Points.{nil}
+use Rattle.plain_program.specs.Points.{nil}
 use Rattle.binding_stack.specs.Stack.{Bound, kept}
 use Rattle.thread_semantics.specs.Acts.{top}
 use Rattle.form_evaluator.proofs.Advances.{drop-one_more}

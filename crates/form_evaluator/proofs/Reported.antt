@@ -1,7 +1,7 @@
 -- What a run that is over leaves is the report of its last configuration.
 use Rattle.std.proofs.Common.{◌≡◌, ℕ, List, [], ◌∷◌, map, refl, ap, sym, ◌∙◌}
-use Rattle.lisp_program.specs.Points.{nil}
-use Rattle.lisp_program.specs.Program.{Program}
+use Rattle.plain_program.specs.Points.{nil}
+use Rattle.plain_program.specs.Program.{PlainProgram}
 use Rattle.thread_semantics.specs.State.{FrameKind, BindFrame, Frame, ThreadState}
 use Rattle.run_semantics.specs.declared.report.FrameWord.TheVariants.{Bind}
 use Rattle.run_semantics.specs.declared.report.OpenForm.{OpenForm}
@@ -24,7 +24,7 @@ shown_all (f ∷ fs) =
     ap (λ k. (record { kind = k; place = f.place }) ∷ shown_forms (map shown_frame fs)) (word_bind f.kind)
     ∙ ap (λ fs'. (record { kind = word_for f.kind; place = f.place }) ∷ fs') (shown_all fs)
 
-pub run_over : (limit : ℕ) (p : Program) (run : Run) (status : ℕ) (phase : PhaseReport) (forms : List OpenForm) → Stops limit p run
+pub run_over : (limit : ℕ) (p : PlainProgram) (run : Run) (status : ℕ) (phase : PhaseReport) (forms : List OpenForm) → Stops limit p run
     → ((s : ThreadState) → Stands s run.evaluator → status ≡ status_of (s ∷ []))
     → ((s : ThreadState) → Stands s run.evaluator → phase ≡ phase_shown s.control limit s.points)
     → forms ≡ shown_forms run.evaluator.frames

@@ -6,12 +6,12 @@ use Rattle.lisp_base.specs.declared.condition.Class.{Class}
 use Rattle.lisp_base.specs.declared.value.Node.{Node}
 use Rattle.environment_semantics.specs.Environment.{Binding, place_of}
 use Rattle.binding_stack.specs.Stack.{word_of, kept}
-use Rattle.lisp_program.specs.declared.act.Act.{Act}
-use Rattle.lisp_program.specs.declared.act.Opening.{Opening}
-use Rattle.lisp_program.specs.declared.act.Opening.TheVariants.{Bind}
-use Rattle.lisp_program.specs.declared.act.Question.{Question}
-use Rattle.lisp_program.specs.declared.act.Question.TheVariants.{Print, Read, Write, Define, EndThread}
-use Rattle.lisp_program.specs.Points.{Points, Done, Do, Ask, Test, Enter}
+use Rattle.plain_program.specs.declared.act.Act.{Act}
+use Rattle.plain_program.specs.declared.act.Opening.{Opening}
+use Rattle.plain_program.specs.declared.act.Opening.TheVariants.{Bind}
+use Rattle.plain_program.specs.declared.act.Question.{Question}
+use Rattle.plain_program.specs.declared.act.Question.TheVariants.{Print, Read, Write, Define, EndThread}
+use Rattle.plain_program.specs.Points.{Points, Done, Do, Ask, Test, Enter}
 use Rattle.world_semantics.specs.declared.phase.Ending.{Ending}
 use Rattle.world_semantics.specs.declared.op.Op.TheVariants.{Get, Set}
 use Rattle.world_semantics.specs.declared.op.Reply.{Reply}

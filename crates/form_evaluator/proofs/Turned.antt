@@ -4,12 +4,12 @@ use Rattle.std.proofs.lemmas.Bool.Decides.{nat_tests}
 use Rattle.lisp_base.specs.declared.condition.Class.{Class}
 use Rattle.lisp_base.specs.declared.value.Node.{Node}
 use Rattle.lisp_base.specs.declared.id.Actor.TheVariants.{Thread}
-use Rattle.lisp_program.specs.Program.{Program}
-use Rattle.lisp_program.specs.Points.{Points, Done, Do, Ask, Test, Enter, main_points}
-use Rattle.lisp_program.specs.declared.act.Opening.{Opening}
-use Rattle.lisp_program.specs.declared.act.Opening.TheVariants.{Bind}
-use Rattle.lisp_program.specs.declared.act.Question.{Question}
-use Rattle.lisp_program.specs.declared.act.Question.TheVariants.{Print, Read, Write, Define, EndThread}
+use Rattle.plain_program.specs.Program.{PlainProgram}
+use Rattle.plain_program.specs.Points.{Points, Done, Do, Ask, Test, Enter, main_points}
+use Rattle.plain_program.specs.declared.act.Opening.{Opening}
+use Rattle.plain_program.specs.declared.act.Opening.TheVariants.{Bind}
+use Rattle.plain_program.specs.declared.act.Question.{Question}
+use Rattle.plain_program.specs.declared.act.Question.TheVariants.{Print, Read, Write, Define, EndThread}
 use Rattle.world_semantics.specs.declared.entry.Entry.{Entry}
 use Rattle.world_semantics.specs.declared.op.Op.{Op}
 use Rattle.world_semantics.specs.declared.op.Op.TheVariants.{Get, Set, Boundp, Out, Finish}
@@ -130,7 +130,7 @@ closed-out : (limit : ℕ) (s : ThreadState) → limit ≤ s.points → closed l
 closed-out limit s h = let none : limit - s.points ≡ 0 = omega arith in ap (λ m. advanced m s) none
 
 -- a local point of the evaluator is one of the run
-pub local_ran : (limit taken : ℕ) (f : Program) (run : Run) (e : Evaluator) → Ran limit f taken run → taken < limit
+pub local_ran : (limit taken : ℕ) (f : PlainProgram) (run : Run) (e : Evaluator) → Ran limit f taken run → taken < limit
     → ((s : ThreadState) → Stands s run.evaluator → Local ≡ next_of s)
     → ((s : ThreadState) → Stands s run.evaluator → next_of s ≡ Local → Stands (local_step_of s) e)
     → Ran limit f (suc taken) (record run { evaluator = e })
@@ -156,7 +156,7 @@ and-false true = refl
 and-false false = refl
 
 -- nothing comes next
-pub nothing_left : (limit taken : ℕ) (f : Program) (run : Run) → Ran limit f taken run
+pub nothing_left : (limit taken : ℕ) (f : PlainProgram) (run : Run) → Ran limit f taken run
     → ((s : ThreadState) → Stands s run.evaluator → Nothing ≡ next_of s) → Stops limit f run
 nothing_left limit taken f run r next =
     let none : next_of r.present ≡ Nothing = sym (next r.present r.stands) in
@@ -168,7 +168,7 @@ nothing_left limit taken f run r next =
     }
 
 -- no points are left
-pub out_of_points : (limit taken : ℕ) (f : Program) (run : Run) → Ran limit f taken run → limit ≤ taken → Stops limit f run
+pub out_of_points : (limit taken : ℕ) (f : PlainProgram) (run : Run) → Ran limit f taken run → limit ≤ taken → Stops limit f run
 out_of_points limit taken f run r h =
     let none : nat_lt r.present.points limit ≡ false = not_below r.present.points limit (omega (arith, r.points)) in
     record {
@@ -224,7 +224,7 @@ pub stands-symbols : (s : ThreadState) (e : Evaluator) → Stands s e → e.bind
 stands-symbols s e h = ap (λ (d : Evaluator). d.bindings.symbols) h.shown
 
 -- an operation of the evaluator is an entry of the run
-pub operation_ran : (limit taken : ℕ) (f : Program) (run : Run) (op : Op) (reply : Reply) (e : Evaluator) (globals : List Global) (phase : Phase) (entries : List Entry) → Ran limit f taken run → taken < limit
+pub operation_ran : (limit taken : ℕ) (f : PlainProgram) (run : Run) (op : Op) (reply : Reply) (e : Evaluator) (globals : List Global) (phase : Phase) (entries : List Entry) → Ran limit f taken run → taken < limit
     → AsksFor op run.evaluator
     → entries ≡ run.entries ++ (record { ticket = length run.entries + 1; actor = Thread 0; point = run.evaluator.points + 1; op = op; reply = reply }) ∷ []
     → reply ≡ reply_by op run.globals → ((s : ThreadState) → Stands s run.evaluator → Stands (after_reply reply s) e)
@@ -256,7 +256,7 @@ operation_ran limit taken f run op reply e globals phase entries r h asks more r
     }
 
 -- a run before its first point
-pub begun : (limit : ℕ) (f : Program) (run : Run)
+pub begun : (limit : ℕ) (f : PlainProgram) (run : Run)
     → run.evaluator ≡ record { doing = Running; ahead = steps_of (main_points f.forms); values = []; frames = []; bindings = shown_bindings []; store = []; points = 0 }
     → run.globals ≡ unbound_all f.specials → run.phase ≡ Alive → run.entries ≡ [] → Ran limit f 0 run
 begun limit f run e g p n =
@@ -275,5 +275,5 @@ begun limit f run e g p n =
     }
 
 -- the evaluator counts the points of the run
-pub counted : (limit taken : ℕ) (f : Program) (run : Run) → Ran limit f taken run → run.evaluator.points ≡ taken
+pub counted : (limit taken : ℕ) (f : PlainProgram) (run : Run) → Ran limit f taken run → run.evaluator.points ≡ taken
 counted limit taken f run r = stands-points r.present run.evaluator r.stands ∙ r.points

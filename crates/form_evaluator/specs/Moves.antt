@@ -6,11 +6,11 @@ use Rattle.lisp_base.specs.declared.value.Node.{Node}
 use Rattle.lisp_base.specs.declared.value.Node.TheVariants.{Symbol}
 use Rattle.environment_semantics.specs.Environment.{held_at, stored}
 use Rattle.binding_stack.specs.Stack.{word_of, with_binding, kept}
-use Rattle.lisp_program.specs.Points.{nil}
-use Rattle.lisp_program.specs.declared.act.Opening.{Opening}
-use Rattle.lisp_program.specs.declared.act.Opening.TheVariants.{Bind}
-use Rattle.lisp_program.specs.declared.act.Question.{Question}
-use Rattle.lisp_program.specs.declared.act.Question.TheVariants.{Print, Read, Write, Define, EndThread}
+use Rattle.plain_program.specs.Points.{nil}
+use Rattle.plain_program.specs.declared.act.Opening.{Opening}
+use Rattle.plain_program.specs.declared.act.Opening.TheVariants.{Bind}
+use Rattle.plain_program.specs.declared.act.Question.{Question}
+use Rattle.plain_program.specs.declared.act.Question.TheVariants.{Print, Read, Write, Define, EndThread}
 use Rattle.world_semantics.specs.declared.op.Op.TheVariants.{Get, Set, Boundp, Out, Finish}
 use Rattle.world_semantics.specs.declared.op.Printed.TheVariants.{Print as Printing}
 use Rattle.world_semantics.specs.declared.op.Reply.{Reply}

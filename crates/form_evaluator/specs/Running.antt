@@ -1,6 +1,6 @@
 -- What a run keeps from turn to turn.
 use Rattle.std.specs.Prelude.{◌≡◌, ℕ, suc, ◌≤◌, List, [], ◌∷◌, Bool, true, false, length, is_some}
-use Rattle.lisp_program.specs.Program.{Program}
+use Rattle.plain_program.specs.Program.{PlainProgram}
 use Rattle.world_semantics.specs.declared.global.Global.{Global}
 use Rattle.world_semantics.specs.declared.op.Op.{Op}
 use Rattle.world_semantics.specs.declared.op.Op.TheVariants.{Get, Set, Boundp, Out, Finish}
@@ -24,7 +24,7 @@ use Rattle.form_evaluator.specs.Evaluator.{Stands}
 
 -- After `taken` points the entries so far are legal and lead to main at `start`; local points alone led from there
 -- to `present`, for which the evaluator stands.
-pub record Ran (limit : ℕ) (p : Program) (taken : ℕ) (run : Run) : Type 0 where
+pub record Ran (limit : ℕ) (p : PlainProgram) (taken : ℕ) (run : Run) : Type 0 where
   pub start : ThreadState
   pub present : ThreadState
   pub world : World
@@ -38,14 +38,14 @@ pub record Ran (limit : ℕ) (p : Program) (taken : ℕ) (run : Run) : Type 0 wh
   pub few : length run.entries ≤ taken
 
 -- main cannot go on: it has ended, or no points are left
-pub record Stops (limit : ℕ) (p : Program) (run : Run) : Type 0 where
+pub record Stops (limit : ℕ) (p : PlainProgram) (run : Run) : Type 0 where
   pub taken : ℕ
   pub ran : Ran limit p taken run
   pub settled : closed limit ran.present ≡ ran.present
   pub idle : can_step limit ran.world 0 ran.present ≡ false
 
 -- a turn takes a point, or there is nothing to take
-abbrev pub Goes : ℕ → Program → ℕ → Bool → Run → Type 0
+abbrev pub Goes : ℕ → PlainProgram → ℕ → Bool → Run → Type 0
 Goes limit p taken true run = Ran limit p (suc taken) run
 Goes limit p taken false run = Stops limit p run
 

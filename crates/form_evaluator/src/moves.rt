@@ -10,7 +10,7 @@ use lisp_base::condition::Class;
 use lisp_base::id::SymbolId;
 use lisp_base::memory::Memory;
 use lisp_base::value::{Node, Value};
-use lisp_program::act::Question;
+use plain_program::act::Question;
 use std::alloc::Global;
 use thread_semantics::next::Next;
 use world_semantics::op::{Op, Printed, Reply};

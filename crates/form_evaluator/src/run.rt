@@ -1,6 +1,6 @@
 ghost use Rattle.std.specs.Prelude.{◌≡◌, ℕ, suc, ◌+◌, ◌<◌, ◌^◌, [], ◌∷◌, length, IfOk, OnOk};
-ghost use Rattle.lisp_program.specs.Program.{Program as Whole};
-ghost use Rattle.lisp_program.specs.Forms.{forms_of};
+ghost use Rattle.plain_program.specs.Program.{PlainProgram as Whole};
+ghost use Rattle.plain_program.specs.Forms.{forms_of};
 ghost use Rattle.run_semantics.specs.Run.{RunsAs};
 ghost use Rattle.run_semantics.specs.Report.{unless_out, status_of, phase_shown};
 ghost use Rattle.world_semantics.specs.World.{unbound_all};
@@ -16,7 +16,7 @@ use lisp_base::id::{Actor, SymbolId, ThreadId};
 use lisp_base::memory::Memory;
 use lisp_base::sequence::Sequence;
 use lisp_base::value::Value;
-use lisp_program::form::Program;
+use plain_program::form::PlainNode;
 use run_semantics::report::{FrameWord, OpenForm, PhaseReport, Report, ThreadLine, ThreadReport};
 use std::alloc::Global;
 use thread_semantics::next::Next;
@@ -148,10 +148,10 @@ impl Run {
     }
 
     /// A run of main before its first point.
-    fn new(alloc: Global, program: &Program, specials: &[SymbolId]) -> Result<Self, Memory>
-        ensures { (limit : ℕ) → IfOk result (Ran limit (record { forms = forms_of program.now; specials = specials.now }) 0) }
+    fn new(alloc: Global, forms: &[PlainNode], specials: &[SymbolId]) -> Result<Self, Memory>
+        ensures { (limit : ℕ) → IfOk result (Ran limit (record { forms = forms_of forms.now; specials = specials.now }) 0) }
     {
-        let steps = main_steps(alloc, program)?;
+        let steps = main_steps(alloc, forms)?;
         Ok(Run {
             evaluator: Evaluator::new(alloc, steps)?,
             globals: unbound_globals(alloc, specials)?,
@@ -247,17 +247,17 @@ pub struct Finished {
     pub report: Report,
 }
 
-/// Runs a program with these special variables, in order of definition, with at most `limit` points for main, and gives its
-/// journal and its report.
+/// Runs a program with these forms, in preorder, and these special variables, in order of definition, with at most `limit`
+/// points for main, and gives its journal and its report.
 pub fn run_program(
     alloc: Global,
-    program: &Program,
+    forms: &[PlainNode],
     specials: &[SymbolId],
     limit: u32,
 ) -> Result<Finished, Memory>
-    ensures { IfOk result (λ finished. RunsAs limit (record { forms = forms_of program.now; specials = specials.now }) finished.entries finished.report) }
+    ensures { IfOk result (λ finished. RunsAs limit (record { forms = forms_of forms.now; specials = specials.now }) finished.entries finished.report) }
 {
-    let mut run = Run::new(alloc, program, specials)?;
+    let mut run = Run::new(alloc, forms, specials)?;
     run.go(alloc, limit)?;
     run.finish(alloc, limit)
 }

@@ -1,14 +1,14 @@
 -- The steps of one form: those of the forms under it, between its own.
 use Rattle.std.proofs.Common.{◌≡◌, ℕ, ◌-◌, List, [], ◌∷◌, ◌++◌, false, length, take, refl, ap, sym, ◌∙◌, set, arith, append_assoc, length-append}
 use Rattle.std.proofs.Math.Seq.{set-append_seam}
-use Rattle.lisp_program.specs.declared.act.Question.TheVariants.{Write, Define}
-use Rattle.lisp_program.specs.declared.act.Act.TheVariants.{Push, Discard, Add}
-use Rattle.lisp_program.specs.declared.act.Opening.TheVariants.{Bind as OpenBind}
-use Rattle.lisp_program.specs.declared.form.CoreKind.{CoreKind}
-use Rattle.lisp_program.specs.declared.form.CoreKind.TheVariants.{Constant, Plus, Print, Progn, Special, Setq, Defvar, Let, Bind}
-use Rattle.lisp_program.specs.Points.{Points, Done, Do, Ask, joined, all_of, body_of, table}
+use Rattle.plain_program.specs.declared.act.Question.TheVariants.{Write, Define}
+use Rattle.plain_program.specs.declared.act.Act.TheVariants.{Push, Discard, Add}
+use Rattle.plain_program.specs.declared.act.Opening.TheVariants.{Bind as OpenBind}
+use Rattle.plain_program.specs.declared.form.PlainKind.{PlainKind}
+use Rattle.plain_program.specs.declared.form.PlainKind.TheVariants.{Constant, Plus, Print, Progn, Special, Setq, Defvar, Let, Bind}
+use Rattle.plain_program.specs.Points.{Points, Done, Do, Ask, joined, all_of, body_of, table}
 use Rattle.form_steps.specs.declared.steps.Step.{Step}
-use Rattle.form_steps.specs.declared.steps.Step.TheVariants.{Act, Test as TestStep, Enter as EnterStep, Leave as LeaveStep}
+use Rattle.form_steps.specs.declared.steps.Step.TheVariants.{Act, Test as TestStep, Enter as EnterStep}
 use Rattle.form_steps.specs.Steps.{steps_of}
 use Rattle.form_steps.specs.Flatten.{strung, body_steps, under_steps, opening_steps, closing_steps}
 use Rattle.form_steps.proofs.Joined.{steps_of-joined}
@@ -65,7 +65,7 @@ framed_by : (e l : Step) (old v u : List Step) → u ≡ v → ((old ++ e ∷ []
 framed_by e l old v u h = rw (h, append-nil (v ++ l ∷ []), append_assoc (old ++ e ∷ []) v, append_assoc old (e ∷ []) (v ++ l ∷ [])) refl
 
 -- closing a form completes its steps
-pub closed_steps : (k : CoreKind) (p : ℕ) (fs : List Points) (old : List Step)
+pub closed_steps : (k : PlainKind) (p : ℕ) (fs : List Points) (old : List Step)
     → closing_steps k (length old) ((old ++ opening_steps k p) ++ under_steps k fs) ≡ old ++ (steps_of (table k p fs) ++ [])
 closed_steps (Constant v) p fs old = ap (λ s. s ++ Act (Push v) ∷ []) (take-front old (strung false fs))
 closed_steps Plus p fs old = closed_by old (strung false fs) _ _ (asked_after fs (Do Add p Done))

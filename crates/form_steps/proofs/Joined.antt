@@ -1,6 +1,6 @@
 -- The steps of points behind points.
 use Rattle.std.proofs.Common.{◌≡◌, ◌∷◌, ◌++◌, length, refl, ap, sym, ◌∙◌, append_assoc}
-use Rattle.lisp_program.specs.Points.{Points, Done, Do, Ask, Test, Enter, joined}
+use Rattle.plain_program.specs.Points.{Points, Done, Do, Ask, Test, Enter, joined}
 use Rattle.form_steps.specs.declared.steps.Step.TheVariants.{Act, Ask as AskStep, Test as TestStep, Enter as EnterStep, Leave as LeaveStep}
 use Rattle.form_steps.specs.Steps.{steps_of}
 

@@ -1,14 +1,14 @@
 -- Forms as steps, one after the other.
 use Rattle.std.specs.Prelude.{◌≡◌, ℕ, zero, suc, ◌-◌, ◌≤◌, List, [], ◌∷◌, ◌++◌, Bool, true, false, length, take, drop, slice_set}
 use Rattle.lisp_base.specs.Forest.{front, behind}
-use Rattle.lisp_program.specs.declared.act.Act.TheVariants.{Push, Discard, Add}
-use Rattle.lisp_program.specs.declared.act.Opening.TheVariants.{Bind as OpenBind}
-use Rattle.lisp_program.specs.declared.act.Question.TheVariants.{Print as AskPrint, Read, Write, Define}
-use Rattle.lisp_program.specs.declared.form.CoreKind.{CoreKind}
-use Rattle.lisp_program.specs.declared.form.CoreKind.TheVariants.{Constant, Plus, Print, Progn, Special, Setq, Defvar, Let, Bind}
-use Rattle.lisp_program.specs.declared.form.FormNode.{FormNode}
-use Rattle.lisp_program.specs.Forms.{forms_of}
-use Rattle.lisp_program.specs.Points.{Points, body_of, points_of}
+use Rattle.plain_program.specs.declared.act.Act.TheVariants.{Push, Discard, Add}
+use Rattle.plain_program.specs.declared.act.Opening.TheVariants.{Bind as OpenBind}
+use Rattle.plain_program.specs.declared.act.Question.TheVariants.{Print as AskPrint, Read, Write, Define}
+use Rattle.plain_program.specs.declared.form.PlainKind.{PlainKind}
+use Rattle.plain_program.specs.declared.form.PlainKind.TheVariants.{Constant, Plus, Print, Progn, Special, Setq, Defvar, Let, Bind}
+use Rattle.plain_program.specs.declared.form.PlainNode.{PlainNode}
+use Rattle.plain_program.specs.Forms.{forms_of}
+use Rattle.plain_program.specs.Points.{Points, body_of, points_of}
 use Rattle.form_steps.specs.declared.steps.Step.{Step}
 use Rattle.form_steps.specs.declared.steps.Step.TheVariants.{Act, Ask, Test, Enter, Leave}
 use Rattle.form_steps.specs.Steps.{steps_of}
@@ -25,7 +25,7 @@ abbrev pub body_steps : List Points → List Step
 body_steps fs = steps_of (body_of 0 fs)
 
 -- the steps of the forms under a form of this kind
-abbrev pub under_steps : CoreKind → List Points → List Step
+abbrev pub under_steps : PlainKind → List Points → List Step
 under_steps (Constant v) = strung false
 under_steps Plus = strung false
 under_steps Print = strung false
@@ -37,7 +37,7 @@ under_steps Let = strung false
 under_steps (Bind s above) = body_steps
 
 -- the steps of a form of this kind at this place before those of the forms under it; the number of a test comes later
-abbrev pub opening_steps : CoreKind → ℕ → List Step
+abbrev pub opening_steps : PlainKind → ℕ → List Step
 opening_steps (Constant v) p = []
 opening_steps Plus p = []
 opening_steps Print p = []
@@ -50,7 +50,7 @@ opening_steps (Bind s above) p = Enter (OpenBind s above) p ∷ []
 
 -- The steps of a form that begins at `start`, once those of the forms under it are written. Under a constant or a
 -- variable there are none; a test passes over all steps behind it.
-abbrev pub closing_steps : CoreKind → ℕ → List Step → List Step
+abbrev pub closing_steps : PlainKind → ℕ → List Step → List Step
 closing_steps (Constant v) start steps = take start steps ++ Act (Push v) ∷ []
 closing_steps Plus start steps = steps ++ Act Add ∷ []
 closing_steps Print start steps = steps ++ Ask AskPrint ∷ []
@@ -62,7 +62,7 @@ closing_steps Let start steps = steps
 closing_steps (Bind s above) start steps = steps ++ Leave ∷ []
 
 -- between two forms of a body, where more forms are wanted and more nodes are there
-abbrev pub between : Bool → ℕ → List FormNode → List Step
+abbrev pub between : Bool → ℕ → List PlainNode → List Step
 between body zero nodes = []
 between body (suc left) [] = []
 between false (suc left) (n ∷ nodes) = []
@@ -70,7 +70,7 @@ between true (suc left) (n ∷ nodes) = Act Discard ∷ []
 
 -- The steps of the next so many forms, put together so, were written behind the old ones, from the node at `from` on,
 -- and the forms after them begin at node `next`.
-pub record Writes (nodes : List FormNode) (from count : ℕ) (together : List Points → List Step) (old new : List Step) (next : ℕ) : Type 0 where
+pub record Writes (nodes : List PlainNode) (from count : ℕ) (together : List Points → List Step) (old new : List Step) (next : ℕ) : Type 0 where
   pub after : from ≤ next
   pub within : next ≤ length nodes
   pub steps : new ≡ old ++ together (points_of (front count (forms_of (drop from nodes))))

@@ -1,4 +1,4 @@
 pub mod Steps
 pub mod Flatten
-pub use Rattle.lisp_program.specs.Forms
-pub use Rattle.lisp_program.specs.Points
+pub use Rattle.plain_program.specs.Forms
+pub use Rattle.plain_program.specs.Points

@@ -1,6 +1,6 @@
 -- The points of a stretch as steps.
 use Rattle.std.specs.Prelude.{List, [], ◌∷◌, ◌++◌, length}
-use Rattle.lisp_program.specs.Points.{Points, Done, Do, Ask, Test, Enter}
+use Rattle.plain_program.specs.Points.{Points, Done, Do, Ask, Test, Enter}
 use Rattle.form_steps.specs.declared.steps.Step.{Step}
 use Rattle.form_steps.specs.declared.steps.Step.TheVariants.{Act, Ask as AskStep, Test as TestStep, Enter as EnterStep, Leave as LeaveStep}
 

@@ -1,6 +1,6 @@
 ghost use Rattle.std.specs.Prelude.{◌≡◌, ◌++◌, ◌∷◌, [], ◌+◌, ◌<◌, ◌≤◌, false, drop, length, OnOk, IfOk};
-ghost use Rattle.lisp_program.specs.Forms.{forms_of};
-ghost use Rattle.lisp_program.specs.Points.{main_points, nil};
+ghost use Rattle.plain_program.specs.Forms.{forms_of};
+ghost use Rattle.plain_program.specs.Points.{main_points, nil};
 ghost use Rattle.form_steps.specs.Steps.{steps_of};
 ghost use Rattle.form_steps.specs.Flatten.{Writes, strung, body_steps, under_steps, between};
 
@@ -8,8 +8,8 @@ use crate::own_steps::{push_closing, push_opening};
 use crate::steps::Step;
 use lisp_base::memory::Memory;
 use lisp_base::value::Value;
-use lisp_program::act::{Act, Question};
-use lisp_program::form::{CoreKind, FormNode, Program};
+use plain_program::act::{Act, Question};
+use plain_program::form::{PlainKind, PlainNode};
 use std::alloc::Global;
 
 /// Discards the value of a form of a body where `left` more forms are wanted and the node at `at` is there.
@@ -17,7 +17,7 @@ use std::alloc::Global;
 fn push_between(
     body: bool,
     left: usize,
-    nodes: &[FormNode],
+    nodes: &[PlainNode],
     at: usize,
     steps: &mut Vec<Step>,
 ) -> Result<(), Memory>
@@ -35,7 +35,7 @@ fn push_between(
 /// them begin.
 #[cycle(forms)]
 fn push_forms(
-    nodes: &[FormNode],
+    nodes: &[PlainNode],
     from: usize,
     count: usize,
     body: bool,
@@ -57,7 +57,7 @@ fn push_forms(
 
 /// Writes the steps of the form at a node.
 #[cycle(forms)]
-fn push_form(nodes: &[FormNode], at: usize, steps: &mut Vec<Step>) -> Result<usize, Memory>
+fn push_form(nodes: &[PlainNode], at: usize, steps: &mut Vec<Step>) -> Result<usize, Memory>
     requires { at < length nodes.now }
     ensures writes { IfOk result (Writes nodes.now at 1 (strung false) steps.old.items steps.new.items) }
     ensures on { IfOk result (λ next. at < next) }
@@ -74,8 +74,8 @@ fn push_form(nodes: &[FormNode], at: usize, steps: &mut Vec<Step>) -> Result<usi
 /// Writes the steps of the forms under a form of this kind.
 #[cycle(forms)]
 fn push_under(
-    kind: CoreKind,
-    nodes: &[FormNode],
+    kind: PlainKind,
+    nodes: &[PlainNode],
     from: usize,
     count: usize,
     steps: &mut Vec<Step>,
@@ -84,15 +84,15 @@ fn push_under(
     ensures { IfOk result (Writes nodes.now from count (under_steps kind) steps.old.items steps.new.items) }
 {
     match kind {
-        CoreKind::Constant(_) => Ok(push_forms(nodes, from, count, false, steps)?),
-        CoreKind::Plus => Ok(push_forms(nodes, from, count, false, steps)?),
-        CoreKind::Print => Ok(push_forms(nodes, from, count, false, steps)?),
-        CoreKind::Progn => Ok(push_body(nodes, from, count, steps)?),
-        CoreKind::Special(_) => Ok(push_forms(nodes, from, count, false, steps)?),
-        CoreKind::Setq(_) => Ok(push_forms(nodes, from, count, false, steps)?),
-        CoreKind::Defvar(_) => Ok(push_forms(nodes, from, count, false, steps)?),
-        CoreKind::Let => Ok(push_forms(nodes, from, count, false, steps)?),
-        CoreKind::Bind(_, _) => Ok(push_body(nodes, from, count, steps)?),
+        PlainKind::Constant(_) => Ok(push_forms(nodes, from, count, false, steps)?),
+        PlainKind::Plus => Ok(push_forms(nodes, from, count, false, steps)?),
+        PlainKind::Print => Ok(push_forms(nodes, from, count, false, steps)?),
+        PlainKind::Progn => Ok(push_body(nodes, from, count, steps)?),
+        PlainKind::Special(_) => Ok(push_forms(nodes, from, count, false, steps)?),
+        PlainKind::Setq(_) => Ok(push_forms(nodes, from, count, false, steps)?),
+        PlainKind::Defvar(_) => Ok(push_forms(nodes, from, count, false, steps)?),
+        PlainKind::Let => Ok(push_forms(nodes, from, count, false, steps)?),
+        PlainKind::Bind(_, _) => Ok(push_body(nodes, from, count, steps)?),
     }
 }
 
@@ -100,7 +100,7 @@ fn push_under(
 #[tactic(auto, using(crate::proofs::Flattened::none_wanted, crate::proofs::Flattened::none_there, crate::proofs::Flattened::body_written))]
 #[cycle(forms)]
 fn push_body(
-    nodes: &[FormNode],
+    nodes: &[PlainNode],
     from: usize,
     count: usize,
     steps: &mut Vec<Step>,
@@ -127,11 +127,10 @@ fn push_nil(steps: &mut Vec<Step>) -> Result<(), Memory>
     Ok(())
 }
 
-/// The steps of main: its forms as a body, and its end.
-pub fn main_steps(alloc: Global, program: &Program) -> Result<Vec<Step>, Memory>
-    ensures { IfOk result (λ steps. steps.items ≡ steps_of (main_points (forms_of program.now))) }
+/// The steps of main, whose forms are these in preorder: its forms as a body, and its end.
+pub fn main_steps(alloc: Global, nodes: &[PlainNode]) -> Result<Vec<Step>, Memory>
+    ensures { IfOk result (λ steps. steps.items ≡ steps_of (main_points (forms_of nodes.now))) }
 {
-    let nodes = program.nodes();
     let mut steps = Vec::new(alloc);
     push_body(nodes, 0, nodes.len(), &mut steps)?;
     push_end(&mut steps)?;

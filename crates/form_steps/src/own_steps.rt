@@ -5,21 +5,21 @@ ghost use Rattle.form_steps.specs.Flatten.{opening_steps, closing_steps};
 use crate::steps::Step;
 use lisp_base::id::SymbolId;
 use lisp_base::memory::Memory;
-use lisp_program::act::{Act, Opening, Question};
-use lisp_program::form::{CoreKind, FormNode};
+use plain_program::act::{Act, Opening, Question};
+use plain_program::form::{PlainKind, PlainNode};
 
 /// Begins the form at a node.
-pub fn push_opening(node: &FormNode, steps: &mut Vec<Step>) -> Result<(), Memory>
+pub fn push_opening(node: &PlainNode, steps: &mut Vec<Step>) -> Result<(), Memory>
     ensures { OnOk result (steps.new.items ≡ steps.old.items ++ opening_steps node.now.kind node.now.place) }
 {
     match node.kind {
-        CoreKind::Constant(_) | CoreKind::Plus | CoreKind::Print | CoreKind::Progn => Ok(()),
-        CoreKind::Special(_) | CoreKind::Setq(_) | CoreKind::Let => Ok(()),
-        CoreKind::Defvar(symbol) => {
+        PlainKind::Constant(_) | PlainKind::Plus | PlainKind::Print | PlainKind::Progn => Ok(()),
+        PlainKind::Special(_) | PlainKind::Setq(_) | PlainKind::Let => Ok(()),
+        PlainKind::Defvar(symbol) => {
             steps.extend_from_slice(&[Step::Test(symbol, 0)])?;
             Ok(())
         }
-        CoreKind::Bind(symbol, above) => {
+        PlainKind::Bind(symbol, above) => {
             steps.extend_from_slice(&[Step::Enter(Opening::Bind(symbol, above), node.place)])?;
             Ok(())
         }
@@ -27,23 +27,23 @@ pub fn push_opening(node: &FormNode, steps: &mut Vec<Step>) -> Result<(), Memory
 }
 
 /// Ends the form at a node, which begins at `start`, where the steps of the forms under it now stand.
-pub fn push_closing(node: &FormNode, start: usize, steps: &mut Vec<Step>) -> Result<(), Memory>
+pub fn push_closing(node: &PlainNode, start: usize, steps: &mut Vec<Step>) -> Result<(), Memory>
     requires { start + length (opening_steps node.now.kind node.now.place) ≤ length steps.old.items }
     ensures { OnOk result (steps.new.items ≡ closing_steps node.now.kind start steps.old.items) }
 {
     match node.kind {
-        CoreKind::Constant(value) => Ok(push_in_place(Step::Act(Act::Push(value)), start, steps)?),
-        CoreKind::Plus => Ok(steps.extend_from_slice(&[Step::Act(Act::Add)])?),
-        CoreKind::Print => Ok(steps.extend_from_slice(&[Step::Ask(Question::Print)])?),
-        CoreKind::Progn | CoreKind::Let => Ok(()),
-        CoreKind::Special(symbol) => {
+        PlainKind::Constant(value) => Ok(push_in_place(Step::Act(Act::Push(value)), start, steps)?),
+        PlainKind::Plus => Ok(steps.extend_from_slice(&[Step::Act(Act::Add)])?),
+        PlainKind::Print => Ok(steps.extend_from_slice(&[Step::Ask(Question::Print)])?),
+        PlainKind::Progn | PlainKind::Let => Ok(()),
+        PlainKind::Special(symbol) => {
             Ok(push_in_place(Step::Ask(Question::Read(symbol)), start, steps)?)
         }
-        CoreKind::Setq(symbol) => Ok(steps.extend_from_slice(&[Step::Ask(Question::Write(
+        PlainKind::Setq(symbol) => Ok(steps.extend_from_slice(&[Step::Ask(Question::Write(
             symbol,
         ))])?),
-        CoreKind::Defvar(symbol) => Ok(push_defined(symbol, start, steps)?),
-        CoreKind::Bind(_, _) => Ok(steps.extend_from_slice(&[Step::Leave])?),
+        PlainKind::Defvar(symbol) => Ok(push_defined(symbol, start, steps)?),
+        PlainKind::Bind(_, _) => Ok(steps.extend_from_slice(&[Step::Leave])?),
     }
 }
 
@@ -59,7 +59,7 @@ fn push_in_place(step: Step, start: usize, steps: &mut Vec<Step>) -> Result<(), 
 /// Ends a `defvar` whose test stands at `start`: the test passes over the value and this.
 fn push_defined(symbol: SymbolId, start: usize, steps: &mut Vec<Step>) -> Result<(), Memory>
     requires { start < length steps.old.items }
-    ensures { OnOk result (steps.new.items ≡ closing_steps (CoreKind.Defvar symbol) start steps.old.items) }
+    ensures { OnOk result (steps.new.items ≡ closing_steps (PlainKind.Defvar symbol) start steps.old.items) }
 {
     let count = steps.as_slice().len() - start;
     steps[start] = Step::Test(symbol, count);

@@ -1,5 +1,5 @@
 use lisp_base::id::{Place, SymbolId};
-use lisp_program::act::{Act, Opening, Question};
+use plain_program::act::{Act, Opening, Question};
 
 /// One step of a flattened form: one point.
 #[derive(Clone, Copy, Debug, PartialEq, Eq)]

@@ -1,58 +1,66 @@
 -- What data stand for, from what each function of the expander says.
-use Rattle.std.proofs.Common.{◌≡◌, ℕ, List, [], Option, None, map, refl, ap, sym, ◌∙◌}
+use Rattle.std.proofs.Common.{◌≡◌, ℕ, suc, List, [], ◌∷◌, Option, None, length, map, refl, ap, sym, ◌∙◌}
+use Rattle.lisp_base.specs.Forest.{count_of}
 use Rattle.lisp_program.specs.Forms.{forms_of, preorder}
+use Rattle.lisp_program.specs.Program.{AreWhole, FlatFunction, FlatProgram, function_of, program_of}
 use Rattle.lisp_program.specs.declared.form.FormNode.{FormNode}
 use Rattle.lisp_reader.specs.Data.{Data}
 use Rattle.lisp_forms.specs.declared.expanded.ExpandedNode.{ExpandedNode}
 use Rattle.lisp_forms.specs.declared.expander.Refusal.{Refusal}
-use Rattle.lisp_forms.specs.Contexts.{program_with}
-use Rattle.lisp_forms.specs.Expansion.{Expansion}
-use Rattle.lisp_forms.specs.Flat.{core_node, first_of, flat}
-use Rattle.lisp_forms.specs.Program.{Expands, core_forms, expansion_of, first_refusal, functions_from, top_forms, variables_from}
-use Rattle.lisp_forms.proofs.Preorders.{core-flat, first_of-flat, forms_back}
+use Rattle.lisp_forms.specs.declared.levels.Numbered.{Numbered}
+use Rattle.lisp_forms.specs.Flat.{flat}
+use Rattle.lisp_forms.specs.Program.{Expands, Known, core_forms, expansion_of, functions_from, functions_of, known_behind, nothing_known, program_refusal, top_forms, variables_from}
+use Rattle.lisp_forms.specs.Scopes.{Scope}
+use Rattle.lisp_forms.specs.Trees.{Expansion}
+use Rattle.lisp_forms.proofs.Cores.{forms_back}
 
--- the expansion by these variables and functions
-abbrev pub expansion_by : List (List ℕ) → List ℕ → List ℕ → List Data → Expansion
-expansion_by names specials functions ds = top_forms (record { names = names; specials = specials; functions = functions }) [] ds
+-- there are as many forms as data
+count-top : (s : Scope) (known : Known) (ds : List Data) → count_of (top_forms s known ds) ≡ length ds
+count-top s known [] = refl
+count-top s known (d ∷ ds) = ap suc (count-top s (known_behind s.names d known) ds)
 
--- where they are those of the program, it is that of the program
-same : (names : List (List ℕ)) (ds : List Data) (specials functions : List ℕ) → specials ≡ variables_from names [] ds → functions ≡ functions_from names [] ds
-    → expansion_by names specials functions ds ≡ expansion_of names ds
-same names ds specials functions v f = rw (v, f) refl
+-- the scope of a program, from what the code has of it
+abbrev pub scope_by : (names texts : List (List ℕ)) → (specials functions : List ℕ) → List Numbered → Scope
+scope_by names texts specials functions levels =
+    record { names = names; texts = texts; specials = specials; functions = functions; levels = levels; depth = 0 }
 
--- what is refused first of the nodes is refused first of the data
-pub refused_first : (names : List (List ℕ)) (ds : List Data) (specials functions : List ℕ) (nodes : List ExpandedNode) (found : Option Refusal)
-    → specials ≡ variables_from names [] ds → functions ≡ functions_from names [] ds
-    → nodes ≡ flat (expansion_by names specials functions ds)
-    → found ≡ first_of None nodes → first_refusal None (expansion_of names ds) ≡ found
-refused_first names ds specials functions nodes found v f is first =
-    sym (first ∙ ap (first_of None) (is ∙ ap flat (same names ds specials functions v f)) ∙ first_of-flat None (expansion_of names ds))
+-- the nodes are those of the expansion
+pub expansion-nodes : (names texts : List (List ℕ)) (ds : List Data) (specials functions : List ℕ) (levels : List Numbered) (nodes : List ExpandedNode)
+    → specials ≡ variables_from names [] ds → functions ≡ functions_from names [] ds → levels ≡ []
+    → nodes ≡ flat (top_forms (scope_by names texts specials functions levels) nothing_known ds) → nodes ≡ flat (expansion_of names texts ds)
+expansion-nodes names texts ds specials functions levels nodes v f none is =
+    is ∙ ap (λ xs. flat (top_forms (scope_by names texts xs functions levels) nothing_known ds)) v
+    ∙ ap (λ xs. flat (top_forms (scope_by names texts (variables_from names [] ds) xs levels) nothing_known ds)) f
+    ∙ ap (λ xs. flat (top_forms (scope_by names texts (variables_from names [] ds) (functions_from names [] ds) xs) nothing_known ds)) none
 
--- the forms of the nodes are those of the data
-forms_same : (names : List (List ℕ)) (ds : List Data) (specials functions : List ℕ) (nodes : List ExpandedNode) (forms : List FormNode)
-    → specials ≡ variables_from names [] ds → functions ≡ functions_from names [] ds
-    → nodes ≡ flat (expansion_by names specials functions ds)
-    → forms ≡ map core_node nodes → forms ≡ preorder (core_forms (expansion_of names ds))
-forms_same names ds specials functions nodes forms v f is made =
-    made ∙ ap (map core_node) (is ∙ ap flat (same names ds specials functions v f)) ∙ core-flat (expansion_of names ds)
+-- the parts of a program, by its expansion
+abbrev pub ArePartsOf : List ExpandedNode → ℕ → List FormNode → List FlatFunction → Type 0
+ArePartsOf nodes count main functions =
+    (e : Expansion) → nodes ≡ flat e → count ≡ count_of e → (main ≡ preorder (core_forms e)) × (map function_of functions ≡ functions_of e)
+
+-- as many forms as the code counts
+counted : (names texts : List (List ℕ)) (ds : List Data) → length ds ≡ count_of (expansion_of names texts ds)
+counted names texts ds = sym (count-top (scope_by names texts (variables_from names [] ds) (functions_from names [] ds) []) nothing_known ds)
 
 -- the data are a program
-pub expands : (names : List (List ℕ)) (ds : List Data) (specials told functions : List ℕ) (nodes : List ExpandedNode) (forms : List FormNode)
-    → specials ≡ told → told ≡ variables_from names [] ds → functions ≡ functions_from names [] ds
-    → nodes ≡ flat (expansion_by names specials functions ds)
-    → None ≡ first_of None nodes → forms ≡ map core_node nodes → Expands names ds (program_with forms told)
-expands names ds specials told functions nodes forms lent v f is first made =
+pub expands : (names texts : List (List ℕ)) (ds : List Data) (nodes : List ExpandedNode) (found : Option Refusal) (main : List FormNode) (functions : List FlatFunction) (specials : List ℕ)
+    (p : FlatProgram) → nodes ≡ flat (expansion_of names texts ds) → ((e : Expansion) → nodes ≡ flat e → found ≡ program_refusal e) → found ≡ None
+    → ArePartsOf nodes (length ds) main functions → specials ≡ variables_from names [] ds
+    → p ≡ (record { main = main; functions = functions; specials = specials }) → Expands names texts ds (program_of p)
+expands names texts ds nodes found main functions specials p is refused none parts v of =
+    let all : Expansion = expansion_of names texts ds in
     record {
-      accepted = refused_first names ds specials functions nodes None (lent ∙ v) f is first;
-      forms = ap forms_of (forms_same names ds specials functions nodes forms (lent ∙ v) f is made) ∙ forms_back (core_forms (expansion_of names ds));
-      specials = v;
+      accepted = sym (refused all is) ∙ none;
+      forms = ap (λ (q : FlatProgram). forms_of q.main) of ∙ ap forms_of (parts all is (counted names texts ds)).0 ∙ forms_back (core_forms all);
+      functions = ap (λ (q : FlatProgram). map function_of q.functions) of ∙ (parts all is (counted names texts ds)).1;
+      specials = ap (λ (q : FlatProgram). q.specials) of ∙ v;
     }
 
--- the nodes of the program are the preorder of its forms
-pub whole_nodes : (names : List (List ℕ)) (ds : List Data) (specials functions : List ℕ) (nodes : List ExpandedNode) (forms : List FormNode)
-    → specials ≡ variables_from names [] ds → functions ≡ functions_from names [] ds
-    → nodes ≡ flat (expansion_by names specials functions ds)
-    → forms ≡ map core_node nodes → preorder (forms_of forms) ≡ forms
-whole_nodes names ds specials functions nodes forms v f is made =
-    let same : forms ≡ preorder (core_forms (expansion_of names ds)) = forms_same names ds specials functions nodes forms v f is made in
-    ap (λ ns. preorder (forms_of ns)) same ∙ ap preorder (forms_back (core_forms (expansion_of names ds))) ∙ sym same
+-- the nodes of its main are those of whole forms
+pub main_whole : (names texts : List (List ℕ)) (ds : List Data) (nodes : List ExpandedNode) (main : List FormNode) (functions : List FlatFunction) (specials : List ℕ)
+    (p : FlatProgram) → nodes ≡ flat (expansion_of names texts ds) → ArePartsOf nodes (length ds) main functions
+    → p ≡ (record { main = main; functions = functions; specials = specials }) → AreWhole p.main
+main_whole names texts ds nodes main functions specials p is parts of =
+    let all : Expansion = expansion_of names texts ds in
+    let same : p.main ≡ preorder (core_forms all) = ap (λ (q : FlatProgram). q.main) of ∙ (parts all is (counted names texts ds)).0 in
+    ap (λ ns. preorder (forms_of ns)) same ∙ ap preorder (forms_back (core_forms all)) ∙ sym same

@@ -1,35 +1,79 @@
 -- What stands at top level, one by one.
-use Rattle.std.proofs.Common.{◌≡◌, ℕ, suc, ◌+◌, ◌<◌, List, ◌∷◌, ◌++◌, length, get_or, drop, Option, Some, None, ap, sym, ◌∙◌, append_assoc, add-one, drop-cons, Result, Ok, Err, IfOk}
-use Rattle.lisp_reader.specs.Data.{Data}
+use Rattle.std.proofs.Common.{◌≡◌, ℕ, suc, ◌+◌, ◌<◌, List, [], ◌∷◌, ◌++◌, length, get_or, drop, OnOk, Result, Ok, Err, refl, ap, sym, ◌∙◌, append_assoc, add-one, drop-cons}
+use Rattle.lisp_base.specs.Forest.{count_of}
+use Rattle.lisp_base.specs.declared.memory.Memory.{Memory}
+use Rattle.lisp_reader.specs.Data.{Data, behind, count_of as data_in}
+use Rattle.lisp_forms.specs.declared.expanded.Expanded.TheVariants.{Defun}
 use Rattle.lisp_forms.specs.declared.expanded.ExpandedNode.{ExpandedNode}
 use Rattle.lisp_forms.specs.declared.shape.Shape.{Shape}
-use Rattle.lisp_forms.specs.Expansion.{Expansion}
-use Rattle.lisp_forms.specs.Flat.{flat}
-use Rattle.lisp_forms.specs.Program.{definition_of, top_form, top_forms, top_shape, with_variable}
-use Rattle.lisp_forms.specs.Shapes.{Scope}
-use Rattle.lisp_forms.proofs.Trees.{flat-joined}
+use Rattle.lisp_forms.specs.declared.shape.Shape.TheVariants as shape
+use Rattle.lisp_forms.specs.Bindings.{function_body_of}
+use Rattle.lisp_forms.specs.Expansion.{forms_in, function_body_in, list_form, parts_in}
+use Rattle.lisp_forms.specs.Flat.{flat, flat_one, node}
+use Rattle.lisp_forms.specs.One.{let_variables}
+use Rattle.lisp_forms.specs.Places.{parameters_in}
+use Rattle.lisp_forms.specs.Program.{Known, known_behind, scope_of_defun, top_form, top_forms, top_list_form}
+use Rattle.lisp_forms.specs.Rows.{blocked, defun_form}
+use Rattle.lisp_forms.specs.Scopes.{Scope}
+use Rattle.lisp_forms.specs.Trees.{Expansion}
+use Rattle.lisp_forms.specs.Written.{special_nodes, special_parts}
+use Rattle.lisp_forms.proofs.Parts.{count-forms}
+use Rattle.lisp_forms.proofs.Lambdas.{flat-function, function-forms, within-names}
 
--- a list that defines a variable
-pub defining : (s : Scope) (known : List ℕ) (p x : ℕ) (under : Data) (defined : Option ℕ) (shape : Shape) → Some x ≡ defined
-    → shape ≡ top_shape s known p (Some x) under → shape ≡ top_shape s known p defined under
-defining s known p x under defined shape is h = h ∙ ap (λ o. top_shape s known p o under) is
+-- a shape other than that of a definition of a function stands for the same as elsewhere
+otherwise : (s : Scope) (p : ℕ) (sh : Shape) (args : Data) → ((f : ℕ) → sh ≡ shape.Defun f → ⊥) → list_form s p sh (let_variables args) (parts_in s p args) ≡ top_list_form s p sh args
+otherwise s p (shape.Defun f) args h = absurd (h f refl)
+otherwise s p other args h = refl
 
--- a list that defines none
-pub not_defining : {E : Type 0} (s : Scope) (known : List ℕ) (p : ℕ) (under : Data) (defined : Option ℕ) (result : Result Shape E) → None ≡ defined
-    → IfOk result (λ shape. (ys : List ℕ) → shape ≡ top_shape s ys p None under) → IfOk result (λ shape. shape ≡ top_shape s known p defined under)
-not_defining s known p under defined (Ok shape) is h = h known ∙ ap (λ o. top_shape s known p o under) is
-not_defining s known p under defined (Err e) is h = tt
+pub written_otherwise : (r : Result Unit Memory) (s : Scope) (p : ℕ) (sh : Shape) (args : Data) (old new : List ExpandedNode) → ((f : ℕ) → sh ≡ shape.Defun f → ⊥)
+    → OnOk r (new ≡ old ++ flat_one (list_form s p sh (let_variables args) (parts_in s p args))) → OnOk r (new ≡ old ++ flat_one (top_list_form s p sh args))
+written_otherwise (Ok u) s p sh args old new h written = written ∙ ap (λ f. old ++ flat_one f) (otherwise s p sh args h)
+written_otherwise (Err e) s p sh args old new h written = tt
+
+-- the forms of the body of a definition of a function
+defun-forms : (s : Scope) (f : ℕ) (xs : List ℕ) (args : Data) → function_body_in (scope_of_defun s f xs) 2 args ≡ forms_in (scope_of_defun s f xs) (function_body_of s.names (behind 2 args))
+defun-forms s f xs args =
+    function-forms (scope_of_defun s f xs) 2 args ∙ ap (λ names. forms_in (scope_of_defun s f xs) (function_body_of names (behind 2 args))) (within-names s xs)
+
+-- a definition of a function is written
+defun-written : (s : Scope) (p f count forms parts : ℕ) (xs : List ℕ) (body : List ExpandedNode) (e : Expansion) (old head bound new : List ExpandedNode)
+    → count ≡ length xs → parts ≡ count_of (blocked count p e)
+    → head ≡ old ++ node (Defun f count) p (special_parts s.specials parts xs) ∷ [] → bound ≡ head ++ special_nodes s.specials p parts 0 xs
+    → new ≡ bound ++ flat (blocked count p e) → new ≡ old ++ flat_one (defun_form s p f xs e)
+defun-written s p f count forms parts xs body e old head bound new many counted first then last =
+    let ns : List ExpandedNode = special_nodes s.specials p parts 0 xs in
+    let inner : List ExpandedNode = flat (blocked count p e) in
+    let top : ExpandedNode = node (Defun f count) p (special_parts s.specials parts xs) in
+    last ∙ ap (λ ms. ms ++ inner) (then ∙ ap (λ ms. ms ++ ns) first)
+    ∙ ap (λ ms. ms ++ inner) (append_assoc old (top ∷ []) ns) ∙ append_assoc old (top ∷ ns) inner
+    ∙ ap (λ m. old ++ (node (Defun f count) p (special_parts s.specials m xs) ∷ (special_nodes s.specials p m 0 xs ++ inner))) counted
+    ∙ ap (λ c. old ++ (node (Defun f c) p (special_parts s.specials (count_of (blocked c p e)) xs) ∷ (special_nodes s.specials p (count_of (blocked c p e)) 0 xs ++ flat (blocked c p e)))) many
+    ∙ ap (λ ms. old ++ ms) (flat-function s (Defun f (length xs)) p xs (blocked (length xs) p e) (defun_form s p f xs e) refl)
+
+pub written_defun : (r : Result Unit Memory) (s inner : Scope) (p f count forms parts : ℕ) (args b : Data) (xs : List ℕ) (body : List ExpandedNode) (old head bound new : List ExpandedNode)
+    → xs ≡ parameters_in (behind 1 args) → inner ≡ scope_of_defun s f xs → b ≡ function_body_of s.names (behind 2 args)
+    → body ≡ flat (forms_in inner b) → forms ≡ data_in b → count ≡ length xs
+    → ((q : ℕ) (e : Expansion) → body ≡ flat e → forms ≡ count_of e → parts ≡ count_of (blocked count q e))
+    → head ≡ old ++ node (Defun f count) p (special_parts s.specials parts xs) ∷ [] → bound ≡ head ++ special_nodes s.specials p parts 0 xs
+    → OnOk r ((e : Expansion) → body ≡ flat e → forms ≡ count_of e → new ≡ bound ++ flat (blocked count p e))
+    → OnOk r (new ≡ old ++ flat_one (top_list_form s p (shape.Defun f) args))
+written_defun (Err e) s inner p f count forms parts args b xs body old head bound new named opened behind_all is few many counted first then last = tt
+written_defun (Ok u) s inner p f count forms parts args b xs body old head bound new named opened behind_all is few many counted first then last =
+    let all : Expansion = forms_in (scope_of_defun s f xs) (function_body_of s.names (behind 2 args)) in
+    let same : body ≡ flat all = is ∙ ap (λ t. flat (forms_in t b)) opened ∙ ap (λ d. flat (forms_in (scope_of_defun s f xs) d)) behind_all in
+    let alike : forms ≡ count_of all =
+    few ∙ ap data_in behind_all ∙ sym (count-forms (scope_of_defun s f xs) (function_body_of s.names (behind 2 args))) in
+    defun-written s p f count forms parts xs body all old head bound new many (counted p all same alike) first then (last all same alike)
+    ∙ ap (λ e. old ++ flat_one (defun_form s p f xs e)) (sym (defun-forms s f xs args))
+    ∙ ap (λ ys. old ++ flat_one (defun_form s p f ys (function_body_in (scope_of_defun s f ys) 2 args))) named
 
 -- one more is written
-pub top_more : (s : Scope) (ds : List Data) (i : ℕ) (d : Data) (defined : Option ℕ) (known slice more : List ℕ) (now new all : List ExpandedNode)
-    → i < length ds → d ≡ get_or ds i d → slice ≡ known → defined ≡ definition_of s.names d → more ≡ with_variable defined known
-    → now ++ flat (top_forms s known (drop i ds)) ≡ all → new ≡ now ++ flat (top_form s slice d)
+pub top_next : (s : Scope) (ds : List Data) (i : ℕ) (d : Data) (known more : Known) (now new all : List ExpandedNode) → i < length ds → d ≡ get_or ds i d
+    → more ≡ known_behind s.names d known → new ≡ now ++ flat_one (top_form s known d) → now ++ flat (top_forms s known (drop i ds)) ≡ all
     → new ++ flat (top_forms s more (drop (i + 1) ds)) ≡ all
-top_more s ds i d defined known slice more now new all h is same says grown so_far pushed =
-    let rest : List Data = drop (suc i) ds in
-    let split : drop i ds ≡ d ∷ rest = drop-cons ds i d h ∙ ap (λ x. x ∷ rest) (sym is) in
-    let next : more ≡ with_variable (definition_of s.names d) known = grown ∙ ap (λ o. with_variable o known) says in
-    let first : Expansion = top_form s known d in
-    let others : Expansion = top_forms s (with_variable (definition_of s.names d) known) rest in
-    let both : flat (top_forms s known (drop i ds)) ≡ flat first ++ flat others = ap (λ xs. flat (top_forms s known xs)) split ∙ flat-joined first others in
-    rw (add-one i, pushed, same, next) (append_assoc now (flat first) (flat others) ∙ ap (λ ns. now ++ ns) (sym both) ∙ so_far)
+top_next s ds i d known more now new all h is grown pushed so_far =
+    let rest : List Data = drop (i + 1) ds in
+    let split : drop i ds ≡ d ∷ rest = drop-cons ds i d h ∙ ap (λ x. x ∷ drop (suc i) ds) (sym is) ∙ ap (λ k. d ∷ drop k ds) (sym (add-one i)) in
+    let others : List ExpandedNode = flat (top_forms s (known_behind s.names d known) rest) in
+    ap (λ k. new ++ flat (top_forms s k rest)) grown ∙ ap (λ ms. ms ++ others) pushed ∙ append_assoc now (flat_one (top_form s known d)) others
+    ∙ sym (ap (λ xs. now ++ flat (top_forms s known xs)) split) ∙ so_far

@@ -1,20 +1,32 @@
 -- What the code reads forms by, as a scope.
 use Rattle.std.specs.Prelude.{◌≡◌, ℕ, List, Option, Some, None, Vec}
 use Rattle.std.specs.Global.{Global}
-use Rattle.lisp_program.specs.Forms.{forms_of}
-use Rattle.lisp_program.specs.Program.{Program}
-use Rattle.lisp_program.specs.declared.form.FormNode.{FormNode}
-use Rattle.lisp_forms.specs.declared.context.Context.{Context}
-use Rattle.lisp_forms.specs.Shapes.{Scope}
+use Rattle.lisp_forms.specs.declared.levels.Numbered.{Numbered}
+use Rattle.lisp_forms.specs.declared.scope.Base.{Base}
+use Rattle.lisp_forms.specs.declared.scope.Context.{Context}
+use Rattle.lisp_forms.specs.declared.scope.Opened.{Opened}
+use Rattle.lisp_forms.specs.declared.top.Known.{Known as CodeKnown}
+use Rattle.lisp_forms.specs.Program.{Known}
+use Rattle.lisp_forms.specs.Scopes.{Scope, with_open}
 
+-- what a form is read by, of its context
 abbrev pub scope_in : Context → Scope
-scope_in c = record { names = c.symbols.now; specials = c.specials.now; functions = c.functions.now }
+scope_in c = record { names = c.symbols.now; texts = c.texts.now; specials = c.specials.now; functions = c.functions.now; levels = c.levels.now; depth = c.depth }
+
+-- the same, of what all forms are read by and what is open round this one
+abbrev pub scope_at : Base → List Numbered → ℕ → Scope
+scope_at b levels depth =
+    record { names = b.symbols.now; texts = b.texts.now; specials = b.specials.now; functions = b.functions.now; levels = levels; depth = depth }
+
+-- a scope with this open in place of what is open in it
+abbrev pub with_opened : Scope → Opened → Scope
+with_opened s o = with_open s o.levels o.depth
 
 -- the code has told these symbols, where there are any
 abbrev pub is_told : Option (Vec ℕ Global) → Option (List ℕ) → Type 0
 is_told None told = told ≡ None
 is_told (Some variables) told = told ≡ Some variables.items
 
--- a program as the code has it
-abbrev pub program_with : List FormNode → List ℕ → Program
-program_with forms specials = record { forms = forms_of forms; specials = specials }
+-- what the code knows to be defined
+abbrev pub known_as : CodeKnown → Known
+known_as k = record { variables = k.variables.items; functions = k.functions.items }

@@ -1,99 +1,295 @@
 -- The forms that data stand for, with what is refused of them in its place.
-use Rattle.std.specs.Prelude.{ℕ, pos, List, [], ◌∷◌, length, unwrap_or}
-use Rattle.lisp_base.specs.Forest.{Forest, NoTrees, Tree, joined}
-use Rattle.lisp_base.specs.declared.value.Node.TheVariants.{Int as AnInt}
-use Rattle.lisp_program.specs.Points.{nil}
-use Rattle.lisp_program.specs.declared.form.CoreKind.TheVariants.{Constant, Plus, Progn, Let, Bind}
-use Rattle.lisp_reader.specs.Data.{Data, NoData, Atom, Listed, behind}
-use Rattle.lisp_forms.specs.declared.expanded.Expanded.{Expanded}
-use Rattle.lisp_forms.specs.declared.expanded.Expanded.TheVariants.{Form, Refused}
+use Rattle.std.specs.Prelude.{ℕ, zero, suc, List, Bool, true, false, ◌&&◌, not, Option, Some, None, if◌then◌else◌, unwrap_or}
+use Rattle.lisp_base.specs.Forest.{NoTrees, Tree, joined}
+use Rattle.lisp_base.specs.declared.condition.Class.{Class}
+use Rattle.lisp_base.specs.declared.condition.Class.TheVariants.{Condition}
+use Rattle.lisp_program.specs.declared.form.CoreKind.TheVariants as k
+use Rattle.lisp_reader.specs.Data.{Data, NoData, Atom, Listed}
+use Rattle.lisp_reader.specs.declared.datum.Leaf.{Leaf}
+use Rattle.lisp_forms.specs.declared.keywords.Role.{Role}
+use Rattle.lisp_forms.specs.declared.keywords.Role.TheVariants.{Value, Place, Skipped}
+use Rattle.lisp_forms.specs.declared.keywords.Roles.{Roles}
+use Rattle.lisp_forms.specs.declared.keywords.Roles.TheVariants.{From, Values}
+use Rattle.lisp_forms.specs.declared.levels.Level.TheVariants.{Block, Region}
+use Rattle.lisp_forms.specs.declared.scope.Target.{Target}
 use Rattle.lisp_forms.specs.declared.shape.Shape.{Shape}
-use Rattle.lisp_forms.specs.declared.shape.Shape.TheVariants.{Wrong, Leaf, Call, Sum, Setting, Binding}
-use Rattle.lisp_forms.specs.Shapes.{Scope, constant, leaf_form, shape_of, variables_of}
+use Rattle.lisp_forms.specs.declared.shape.Shape.TheVariants as shape
+use Rattle.lisp_forms.specs.Bindings.{bound_in_list, is_declaration, is_text, opened, opened_by, or_none, received_by, variables_of}
+use Rattle.lisp_forms.specs.Clauses.{class_of, clause_variable}
+use Rattle.lisp_forms.specs.Keywords.{role_at}
+use Rattle.lisp_forms.specs.Places.{misplaced_kind, parameters_in, placed_form, placed_of, scope_within}
+use Rattle.lisp_forms.specs.Rows
+use Rattle.lisp_forms.specs.Scopes.{Scope, deeper, inside, leaf_form, leaf_symbol, target_of}
+use Rattle.lisp_forms.specs.Shapes.{shape_of}
+use Rattle.lisp_forms.specs.Trees.{Expansion, Single, in_front, only, leaf, form, nil_form, refused, first, others, second}
 
--- forms beside one another, with what is refused of them in its place
-abbrev pub Expansion : Type 0
-Expansion = Forest Expanded
+-- The parts of a list that stand for forms, in each way in which some shape reads them: what a shape does not use does not
+-- matter.
+pub record Parts : Type 0 where
+  -- the arguments as forms, by what they are for
+  pub arguments : Roles → Expansion
+  -- the arguments behind so many as a body, and all as forms, where these are open
+  pub body : Scope → ℕ → Expansion
+  pub forms : Scope → Expansion
+  -- the forms in the list that is the first argument, where these are open
+  pub within : Scope → Roles → Expansion
+  -- the values of the variables of a `let`, and of a `let*`
+  pub values : Expansion
+  pub values_in_turn : Expansion
+  -- the pairs of a `setq`, the forms of an `or`, the clauses of a `cond`, and those of a `handler-case`
+  pub pairs : Expansion
+  pub ors : Single
+  pub conds : Single
+  pub clauses : Expansion
 
--- a form with nothing under it
-abbrev pub alone : Expanded → ℕ → Expansion
-alone k p = Tree k p NoTrees NoTrees
+-- what is open in a `with-mutex`
+abbrev pub in_lock : Scope → Scope
+in_lock s = deeper (deeper (deeper s))
 
--- sums of this and each of those, from the left
-abbrev pub summed : ℕ → Expansion → Expansion → Expansion
-summed p sum NoTrees = sum
-summed p sum (Tree k q under beside) = summed p (Tree (Form Plus) p (joined sum (Tree k q under NoTrees)) NoTrees) beside
+-- what is open in a `dotimes`: its block, and two hidden variables
+abbrev pub in_dotimes : Scope → Scope
+in_dotimes s = deeper (deeper (inside s (Block 0)))
 
--- the sum of these: that of none is 0, and that of one its sum with 0
-abbrev pub sum_form : ℕ → Expansion → Expansion
-sum_form p NoTrees = alone (constant (AnInt (pos 0))) p
-sum_form p (Tree k q under NoTrees) = summed p (alone (constant (AnInt (pos 0))) p) (Tree k q under NoTrees)
-sum_form p (Tree k q under (Tree k' q' under' beside)) = summed p (Tree k q under NoTrees) (Tree k' q' under' beside)
+-- what is open where its variable is
+abbrev pub in_turn : Scope → ℕ → Scope
+in_turn s x = opened_by (in_dotimes s) x
 
--- One binding in another, the first variable outermost. The values lie in order, so that of the first variable has those of all
--- others in front.
-abbrev pub binds : ℕ → List ℕ → Expansion → Expansion
-binds p [] body = body
-binds p (x ∷ xs) body = Tree (Form (Bind x (length xs))) p (binds p xs body) NoTrees
+-- the result of a `dotimes`, where there is one: the third of these
+abbrev pub result_of : Expansion → Option Single
+result_of NoTrees = None
+result_of (Tree kind p under NoTrees) = None
+result_of (Tree kind p under (Tree kind' p' under' NoTrees)) = None
+result_of (Tree kind p under (Tree kind' p' under' (Tree kind'' p'' under'' beside))) =
+    Some (record { kind = kind''; place = p''; under = under'' })
 
--- a `let` of these variables, with these values and this body; without variables it is its body
-abbrev pub let_form : ℕ → List ℕ → Expansion → Expansion → Expansion
-let_form p [] values body = Tree (Form Progn) p body NoTrees
-let_form p (x ∷ xs) values body = Tree (Form Let) p (joined values (binds p (x ∷ xs) body)) NoTrees
+-- what stands for a list of this shape at a place, with these variables of a `let`
+abbrev pub list_form : Scope → ℕ → Shape → List ℕ → Parts → Single
+list_form s p (shape.Wrong number q) xs parts = refused number q
+list_form s p (shape.Leaf kind) xs parts = leaf kind p
+list_form s p (shape.Over kind roles) xs parts = form kind p (parts.arguments roles)
+list_form s p (shape.OverNil kind roles) xs parts = form kind p (joined (parts.arguments roles) (only (nil_form p)))
+list_form s p shape.When xs parts = Rows.when_form p (parts.forms s)
+list_form s p shape.Unless xs parts = Rows.unless_form p (parts.forms s)
+list_form s p shape.Cond xs parts = parts.conds
+list_form s p shape.And xs parts = Rows.and_form p (parts.forms s)
+list_form s p shape.Or xs parts = parts.ors
+list_form s p shape.Prog1 xs parts = Rows.prog1_form s.depth p (first p (parts.forms s)) (parts.body (deeper s) 1)
+list_form s p shape.Setq xs parts = Rows.as_one p parts.pairs
+list_form s p (shape.Change target f) xs parts = Rows.change_form p target f (parts.forms s)
+list_form s p (shape.Fold f) xs parts = Rows.fold_form p f (parts.forms s)
+list_form s p (shape.Twice f) xs parts = Rows.twice_form s.depth p f (first p (parts.forms s))
+list_form s p shape.Let xs parts = Rows.let_form s p xs parts.values (parts.body (opened s xs) 1)
+list_form s p shape.LetStar xs parts = Rows.let_star_form s p xs parts.values_in_turn (parts.body (opened s xs) 1)
+list_form s p (shape.Body kind) xs parts = form kind p (parts.body s 0)
+list_form s p (shape.LocalInterrupts n) xs parts = Rows.local_form n p (parts.body s 0)
+list_form s p shape.Without xs parts = form (k.WithoutInterrupts s.depth) p (parts.body (inside s Region) 0)
+list_form s p (shape.Block b) xs parts = form (k.Block s.depth) p (parts.body (inside s (Block b)) 1)
+list_form s p shape.Catch xs parts = form k.Catch p (in_front (first p (parts.forms s)) (parts.body s 1))
+list_form s p shape.Loop xs parts = Rows.loop_form s.depth p (parts.body (inside s (Block 0)) 0)
+list_form s p (shape.Dotimes x) xs parts =
+    Rows.dotimes_form s p x s.depth (second p (parts.within (inside s (Block 0)) (From 0))) (parts.body (in_turn s x) 1)
+    (result_of (parts.within (in_turn s x) (From 0)))
+list_form s p shape.IgnoreErrors xs parts = Rows.ignore_form p (parts.forms s)
+list_form s p shape.Handler xs parts = form k.HandlerCase p (in_front (first p (parts.forms s)) parts.clauses)
+list_form s p (shape.Deadline seconds replaces) xs parts =
+    form (k.WithDeadline seconds replaces) p (joined (parts.within s (Values 0)) (parts.body s 1))
+list_form s p (shape.Mutex waitp timeout) xs parts =
+    Rows.mutex_form s.depth p waitp timeout (first p (parts.within s (From 0))) (parts.within (in_lock s) (Values 1)) (parts.body (in_lock s) 1)
+list_form s p shape.RecursiveLock xs parts =
+    Rows.lock_form s.depth p (first p (parts.within s (From 0))) (parts.body (in_lock s) 1)
+list_form s p shape.Timeout xs parts =
+    Rows.timeout_form s.depth p (first p (parts.forms (deeper s))) (others (parts.forms (deeper s)))
+list_form s p shape.Terminate xs parts = Rows.terminate_form p (parts.forms s)
+list_form s p (shape.Defun f) xs parts = refused 12 p
 
--- a list of this shape, from the forms behind its head and behind its first argument, the values of its variables, and these
-abbrev pub list_form : ℕ → Shape → (arguments others values : Expansion) → List ℕ → Expansion
-list_form p (Wrong number q) arguments others values variables = alone (Refused number) q
-list_form p (Leaf k) arguments others values variables = alone k p
-list_form p (Call k) arguments others values variables = Tree (Form k) p arguments NoTrees
-list_form p Sum arguments others values variables = sum_form p arguments
-list_form p (Setting k) arguments others values variables = Tree (Form k) p others NoTrees
-list_form p Binding arguments others values variables = let_form p variables values others
+-- what is read by behind a variable of a `let*`
+abbrev pub behind_variable : Scope → Option ℕ → Scope
+behind_variable s None = s
+behind_variable s (Some x) = opened_by s x
 
--- the value of a variable: the form behind its name, or NIL
-abbrev pub value_form : ℕ → Expansion → Expansion
-value_form p NoTrees = alone (Form (Constant nil)) p
-value_form p (Tree k q under beside) = Tree k q under beside
+-- what the body of a clause is read by, where it has this variable or none
+abbrev pub in_clause : Scope → Option ℕ → Scope
+in_clause s None = s
+in_clause s (Some x) = received_by s x
 
--- the variables of a `let` with these arguments; what one without its shape has does not matter
-abbrev pub let_variables : Data → List ℕ
-let_variables args = unwrap_or (variables_of args) []
+-- the class, where there is one
+abbrev pub or_condition : Option Class → Class
+or_condition class = unwrap_or class Condition
+
+-- the variable that a symbol is, where there is a symbol
+abbrev pub target_in : Scope → Option ℕ → Option Target
+target_in s None = None
+target_in s (Some x) = target_of s x
+
+-- there are none
+abbrev pub is_none : Data → Bool
+is_none NoData = true
+is_none (Atom leaf p beside) = false
+is_none (Listed p under beside) = false
+
+-- a leaf as a form
+abbrev pub leaf_single : Scope → Leaf → ℕ → Single
+leaf_single s l p = leaf (leaf_form s l) p
+
+-- what one with a role stands for, in front of others
+abbrev pub with_role : Role → (value placed : Single) → Expansion → Expansion
+with_role Value value placed fs = in_front value fs
+with_role Place value placed fs = in_front placed fs
+with_role Skipped value placed fs = fs
 
 abbrev mutual
   -- each of these as a form
   pub forms_in : Scope → Data → Expansion
   forms_in s NoData = NoTrees
-  forms_in s (Atom leaf p beside) = Tree (leaf_form s leaf) p NoTrees (forms_in s beside)
-  forms_in s (Listed p under beside) =
-      joined (list_form p (shape_of s p under) (forms_behind s under) (forms_behind_two s under) (values_behind s under) (let_variables (behind 1 under)))
-      (forms_in s beside)
+  forms_in s (Atom l p beside) = in_front (leaf_single s l p) (forms_in s beside)
+  forms_in s (Listed p under beside) = in_front (listed s p under) (forms_in s beside)
 
-  -- each but the first
-  pub forms_behind : Scope → Data → Expansion
-  forms_behind s NoData = NoTrees
-  forms_behind s (Atom leaf p beside) = forms_in s beside
-  forms_behind s (Listed p under beside) = forms_in s beside
+  -- a list of these, at a place
+  pub listed : Scope → ℕ → Data → Single
+  listed s p NoData = refused 11 p
+  listed s p (Listed q under args) = refused 11 p
+  listed s p (Atom l q args) =
+      list_form s p (shape_of s p (Atom l q args)) (or_none (variables_of args)) record {
+        arguments = λ roles. by_roles s roles 0 args;
+        body = λ inner n. body_in inner n args;
+        forms = λ inner. forms_in inner args;
+        within = λ inner roles. within_first inner roles args;
+        values = values_first s args;
+        values_in_turn = turn_first s args;
+        pairs = pairs_in s p args;
+        ors = ors_in s p args;
+        conds = conds_in s p args;
+        clauses = clauses_behind s p args;
+      }
 
-  -- each but the first two
-  pub forms_behind_two : Scope → Data → Expansion
-  forms_behind_two s NoData = NoTrees
-  forms_behind_two s (Atom leaf p beside) = forms_behind s beside
-  forms_behind_two s (Listed p under beside) = forms_behind s beside
+  -- each of these by what it is for, from the one with this number on
+  pub by_roles : Scope → Roles → ℕ → Data → Expansion
+  by_roles s roles i NoData = NoTrees
+  by_roles s roles i (Atom l p beside) =
+      with_role (role_at roles i) (leaf_single s l p) (leaf (misplaced_kind (leaf_form s l)) p) (by_roles s roles (suc i) beside)
+  by_roles s roles i (Listed p under beside) = with_role (role_at roles i) (listed s p under) (placed s p under) (by_roles s roles (suc i) beside)
 
-  -- the values of the bindings in the second
-  pub values_behind : Scope → Data → Expansion
-  values_behind s NoData = NoTrees
-  values_behind s (Atom leaf p beside) = values_first s beside
-  values_behind s (Listed p under beside) = values_first s beside
+  -- those behind so many, as a body
+  pub body_in : Scope → ℕ → Data → Expansion
+  body_in s n NoData = NoTrees
+  body_in s (suc n) (Atom l p beside) = body_in s n beside
+  body_in s (suc n) (Listed p under beside) = body_in s n beside
+  body_in s zero (Atom l p beside) = in_front (leaf_single s l p) (forms_in s beside)
+  body_in s zero (Listed p under beside) =
+      if is_declaration s.names under then body_in s zero beside else in_front (listed s p under) (forms_in s beside)
+
+  -- those behind so many, as the body of a function
+  pub function_body_in : Scope → ℕ → Data → Expansion
+  function_body_in s n NoData = NoTrees
+  function_body_in s (suc n) (Atom l p beside) = function_body_in s n beside
+  function_body_in s (suc n) (Listed p under beside) = function_body_in s n beside
+  function_body_in s zero (Atom l p beside) =
+      if is_text l && not (is_none beside) then body_in s zero beside else in_front (leaf_single s l p) (forms_in s beside)
+  function_body_in s zero (Listed p under beside) =
+      if is_declaration s.names under then body_in s zero beside else in_front (listed s p under) (forms_in s beside)
+
+  -- those in the list that is the first, by what they are for
+  pub within_first : Scope → Roles → Data → Expansion
+  within_first s roles NoData = NoTrees
+  within_first s roles (Atom l p beside) = NoTrees
+  within_first s roles (Listed p under beside) = by_roles s roles 0 under
 
   -- the values of the bindings in the first
   pub values_first : Scope → Data → Expansion
   values_first s NoData = NoTrees
-  values_first s (Atom leaf p beside) = NoTrees
+  values_first s (Atom l p beside) = NoTrees
   values_first s (Listed p under beside) = values_in s under
 
   -- the values of these bindings
   pub values_in : Scope → Data → Expansion
   values_in s NoData = NoTrees
-  values_in s (Atom leaf p beside) = Tree (Form (Constant nil)) p NoTrees (values_in s beside)
-  values_in s (Listed p under beside) = joined (value_form p (forms_behind s under)) (values_in s beside)
+  values_in s (Atom l p beside) = in_front (nil_form p) (values_in s beside)
+  values_in s (Listed p under beside) = in_front (first p (by_roles s (From 1) 0 under)) (values_in s beside)
+
+  -- the same of a `let*`, where each value is read behind the variables before it
+  pub turn_first : Scope → Data → Expansion
+  turn_first s NoData = NoTrees
+  turn_first s (Atom l p beside) = NoTrees
+  turn_first s (Listed p under beside) = turns_in s under
+
+  -- and of these bindings
+  pub turns_in : Scope → Data → Expansion
+  turns_in s NoData = NoTrees
+  turns_in s (Atom l p beside) = in_front (nil_form p) (turns_in (behind_variable s (leaf_symbol l)) beside)
+  turns_in s (Listed p under beside) =
+      in_front (first p (by_roles s (From 1) 0 under)) (turns_in (behind_variable s (bound_in_list under)) beside)
+
+  -- the pairs of a `setq` at a place
+  pub pairs_in : Scope → ℕ → Data → Expansion
+  pairs_in s p NoData = NoTrees
+  pairs_in s p (Listed q under beside) = NoTrees
+  pairs_in s p (Atom l q beside) = pair_in s p (target_in s (leaf_symbol l)) q beside
+
+  -- a value for this variable, whose symbol is at q, and the other pairs
+  pub pair_in : Scope → ℕ → Option Target → ℕ → Data → Expansion
+  pair_in s p target q NoData = NoTrees
+  pair_in s p target q (Atom l r beside) = in_front (Rows.set_form p target q (leaf_single s l r)) (pairs_in s p beside)
+  pair_in s p target q (Listed r under beside) = in_front (Rows.set_form p target q (listed s r under)) (pairs_in s p beside)
+
+  -- the `or` of these at a place
+  pub ors_in : Scope → ℕ → Data → Single
+  ors_in s p NoData = nil_form p
+  ors_in s p (Atom l q beside) = Rows.or_form (is_none beside) s.depth p (leaf_single s l q) (ors_in (deeper s) p beside)
+  ors_in s p (Listed q under beside) = Rows.or_form (is_none beside) s.depth p (listed s q under) (ors_in (deeper s) p beside)
+
+  -- the `cond` of these clauses at a place
+  pub conds_in : Scope → ℕ → Data → Single
+  conds_in s p NoData = nil_form p
+  conds_in s p (Atom l q beside) = conds_in s p beside
+  conds_in s p (Listed q under beside) =
+      Rows.clause_of_cond s.depth p (forms_in s under) (conds_in s p beside) (conds_in (deeper s) p beside)
+
+  -- the clauses of a `handler-case` at a place, behind its form
+  pub clauses_behind : Scope → ℕ → Data → Expansion
+  clauses_behind s p NoData = NoTrees
+  clauses_behind s p (Atom l q beside) = clauses_in s p beside
+  clauses_behind s p (Listed q under beside) = clauses_in s p beside
+
+  -- these clauses
+  pub clauses_in : Scope → ℕ → Data → Expansion
+  clauses_in s p NoData = NoTrees
+  clauses_in s p (Atom l q beside) = clauses_in s p beside
+  clauses_in s p (Listed q under beside) = in_front (clause_in s p under) (clauses_in s p beside)
+
+  -- a clause of these
+  pub clause_in : Scope → ℕ → Data → Single
+  clause_in s p NoData = nil_form p
+  clause_in s p (Listed q under rest) = nil_form p
+  clause_in s p (Atom l q rest) =
+      Rows.clause_form s s.depth p (or_condition (class_of s.names (leaf_symbol l))) (clause_variable rest)
+      (body_in (in_clause s (clause_variable rest)) 1 rest)
+
+  -- a list of these in a function's place
+  pub placed : Scope → ℕ → Data → Single
+  placed s p NoData = refused 11 p
+  placed s p (Listed q under args) = refused 11 p
+  placed s p (Atom l q args) =
+      placed_form s p (placed_of s p (Atom l q args)) (parameters_in args)
+      (function_body_in (scope_within s (parameters_in args)) 1 args) (placed_first s args)
+
+  -- the list that is the first of these, in a function's place
+  pub placed_first : Scope → Data → Single
+  placed_first s NoData = refused 12 0
+  placed_first s (Atom l p beside) = refused 12 0
+  placed_first s (Listed p under beside) = placed s p under
+
+-- the parts of a list with these arguments
+abbrev pub parts_in : Scope → ℕ → Data → Parts
+parts_in s p args =
+    record {
+      arguments = λ roles. by_roles s roles 0 args;
+      body = λ inner n. body_in inner n args;
+      forms = λ inner. forms_in inner args;
+      within = λ inner roles. within_first inner roles args;
+      values = values_first s args;
+      values_in_turn = turn_first s args;
+      pairs = pairs_in s p args;
+      ors = ors_in s p args;
+      conds = conds_in s p args;
+      clauses = clauses_behind s p args;
+    }

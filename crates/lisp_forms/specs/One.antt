@@ -1,45 +1,89 @@
 -- One datum of several, as the code has it.
-use Rattle.std.specs.Prelude.{ℕ, List, Option}
-use Rattle.lisp_base.specs.Forest.{NoTrees}
-use Rattle.lisp_program.specs.Points.{nil}
-use Rattle.lisp_program.specs.declared.form.CoreKind.TheVariants.{Constant}
-use Rattle.lisp_reader.specs.Data.{behind, count_of}
+use Rattle.std.specs.Prelude.{ℕ, List, Bool, true, false, Option, None, nat_lt}
+use Rattle.lisp_reader.specs.Data.{Data, NoData, Atom, Listed, count_of}
 use Rattle.lisp_reader.specs.declared.items.First.{First}
 use Rattle.lisp_reader.specs.declared.items.First.TheVariants.{Leaf as LeafFirst, List as ListFirst}
-use Rattle.lisp_forms.specs.Expansion.{Expansion, alone, forms_behind, forms_behind_two, let_variables, list_form, value_form, values_behind, values_in}
-use Rattle.lisp_forms.specs.Program.{definition_in, top_shape}
-use Rattle.lisp_forms.specs.Shapes.{Scope, bound_in_list, leaf_form, leaf_symbol, shape_of}
-use Rattle.lisp_forms.specs.declared.expanded.Expanded.TheVariants.{Form}
+use Rattle.lisp_forms.specs.Bindings.{bound_in_list, is_declaration, or_none, variables_of}
+use Rattle.lisp_forms.specs.Clauses.{is_clause, is_variable_list}
+use Rattle.lisp_forms.specs.Expansion.{by_roles, leaf_single, listed, placed}
+use Rattle.lisp_forms.specs.Scopes.{Scope, constant, leaf_form, leaf_symbol, node_of}
+use Rattle.lisp_forms.specs.Shapes.{quoted_list, placed as with_place}
+use Rattle.lisp_forms.specs.declared.expanded.Expanded.{Expanded}
+use Rattle.lisp_forms.specs.Trees.{Single, first, leaf, nil_form}
+use Rattle.lisp_forms.specs.Places.{misplaced_kind}
+use Rattle.lisp_forms.specs.declared.keywords.Roles.TheVariants.{From}
 
 -- the variable that the first of several bindings binds
 abbrev pub bound_by : First → Option ℕ
 bound_by (LeafFirst leaf p) = leaf_symbol leaf
 bound_by (ListFirst p under) = bound_in_list under
 
+-- the symbol that one is
+abbrev pub symbol_by : First → Option ℕ
+symbol_by (LeafFirst leaf p) = leaf_symbol leaf
+symbol_by (ListFirst p under) = None
+
+-- one is a `declare` that may start a body
+abbrev pub is_declared : List (List ℕ) → First → Bool
+is_declared names (LeafFirst leaf p) = false
+is_declared names (ListFirst p under) = is_declaration names under
+
 -- one as a form
-abbrev pub first_form : Scope → First → Expansion
-first_form s (LeafFirst leaf p) = alone (leaf_form s leaf) p
-first_form s (ListFirst p under) =
-    list_form p (shape_of s p under) (forms_behind s under) (forms_behind_two s under) (values_behind s under) (let_variables (behind 1 under))
+abbrev pub first_form : Scope → First → Single
+first_form s (LeafFirst l p) = leaf_single s l p
+first_form s (ListFirst p under) = listed s p under
+
+-- one in a function's place
+abbrev pub first_placed : Scope → First → Single
+first_placed s (LeafFirst l p) = leaf (misplaced_kind (leaf_form s l)) p
+first_placed s (ListFirst p under) = placed s p under
 
 -- the value of one binding
-abbrev pub bound_value : Scope → First → Expansion
-bound_value s (LeafFirst leaf p) = alone (Form (Constant nil)) p
-bound_value s (ListFirst p under) = value_form p (forms_behind s under)
+abbrev pub bound_value : Scope → First → Single
+bound_value s (LeafFirst l p) = nil_form p
+bound_value s (ListFirst p under) = first p (by_roles s (From 1) 0 under)
 
--- the values of the bindings that one holds
-abbrev pub first_values : Scope → First → Expansion
-first_values s (LeafFirst leaf p) = NoTrees
-first_values s (ListFirst p under) = values_in s under
+-- one that is quoted
+abbrev pub quoted_first : First → Expanded
+quoted_first (LeafFirst l p) = constant (node_of l)
+quoted_first (ListFirst p under) = quoted_list (count_of under)
 
--- how many data are in the list that one is
-abbrev pub count_under : First → ℕ
-count_under (LeafFirst leaf p) = 0
-count_under (ListFirst p under) = count_of under
+-- the symbol that one is, and its place
+abbrev pub placed_symbol : First → Option (ℕ × ℕ)
+placed_symbol (LeafFirst l p) = with_place (leaf_symbol l) p
+placed_symbol (ListFirst p under) = None
 
--- one as a form at top level
-abbrev pub top_first : Scope → List ℕ → First → Expansion
-top_first s known (LeafFirst leaf p) = alone (leaf_form s leaf) p
-top_first s known (ListFirst p under) =
-    list_form p (top_shape s known p (definition_in s.names under) under) (forms_behind s under) (forms_behind_two s under) (values_behind s under)
-    (let_variables (behind 1 under))
+-- one is a list of no variable, or one
+abbrev pub holds_variable : List (List ℕ) → First → Bool
+holds_variable names (LeafFirst l p) = false
+holds_variable names (ListFirst p under) = is_variable_list names under
+
+-- one is a clause of `handler-case`
+abbrev pub holds_clause : List (List ℕ) → First → Bool
+holds_clause names (LeafFirst l p) = false
+holds_clause names (ListFirst p under) = is_clause names under
+
+-- one is a clause of `cond`
+abbrev pub holds_test : First → Bool
+holds_test (LeafFirst l p) = false
+holds_test (ListFirst p under) = nat_lt 0 (count_of under)
+
+-- the variables of a `let` with these arguments; what one without its shape has does not matter
+abbrev pub let_variables : Data → List ℕ
+let_variables args = or_none (variables_of args)
+
+-- what is in the list that is the first of these
+abbrev pub items_first : Data → Data
+items_first NoData = NoData
+items_first (Atom l p beside) = NoData
+items_first (Listed p under beside) = under
+
+-- the place of one
+abbrev pub place_by : First → ℕ
+place_by (LeafFirst l p) = p
+place_by (ListFirst p under) = p
+
+-- one is a list
+abbrev pub is_list : First → Bool
+is_list (LeafFirst l p) = false
+is_list (ListFirst p under) = true

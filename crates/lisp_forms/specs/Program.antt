@@ -1,46 +1,38 @@
 -- What a whole program stands for.
-use Rattle.std.specs.Prelude.{◌≡◌, ℕ, List, [], ◌∷◌, ◌++◌, Bool, true, false, ◌&&◌, ◌||◌, ◌==◌, Option, Some, None, if◌then◌else◌, nat_lt, length, codes}
-use Rattle.std.specs.Str.{bytes_eq}
-use Rattle.lisp_base.specs.Forest.{NoTrees, Tree, joined}
+use Rattle.std.specs.Prelude.{◌≡◌, ℕ, suc, List, [], ◌∷◌, ◌++◌, Bool, true, false, ◌&&◌, ◌||◌, ◌==◌, Option, Some, None, if◌then◌else◌, nat_lt, length, not}
+use Rattle.lisp_base.specs.Forest.{NoTrees, Tree}
+use Rattle.lisp_base.specs.declared.id.FunctionName.TheVariants.{Named, At}
 use Rattle.lisp_base.specs.declared.value.Node.TheVariants.{Symbol as ASymbol}
 use Rattle.lisp_program.specs.Forms.{Forms}
 use Rattle.lisp_program.specs.Points.{nil}
-use Rattle.lisp_program.specs.Program.{Program}
+use Rattle.lisp_program.specs.Program.{Function, Program}
 use Rattle.lisp_program.specs.declared.form.CoreKind.{CoreKind}
-use Rattle.lisp_program.specs.declared.form.CoreKind.TheVariants.{Constant, Defvar as DefvarForm}
+use Rattle.lisp_program.specs.declared.form.CoreKind.TheVariants as k
 use Rattle.lisp_reader.specs.Data.{Data, NoData, Atom, Listed, behind, count_of}
-use Rattle.lisp_reader.specs.declared.datum.Leaf.{Leaf}
-use Rattle.lisp_reader.specs.declared.datum.Leaf.TheVariants.{Int, Symbol, Text, Time}
 use Rattle.lisp_forms.specs.declared.expanded.Expanded.{Expanded}
-use Rattle.lisp_forms.specs.declared.expanded.Expanded.TheVariants.{Form, Refused}
+use Rattle.lisp_forms.specs.declared.expanded.Expanded.TheVariants.{Form, Lambda, Defun, Refused, RefusedFunction}
 use Rattle.lisp_forms.specs.declared.expander.Refusal.{Refusal}
+use Rattle.lisp_forms.specs.declared.keywords.Roles.TheVariants.{Just}
 use Rattle.lisp_forms.specs.declared.operator.Operator.{Operator}
-use Rattle.lisp_forms.specs.declared.operator.Operator.TheVariants.{Quote, Progn, Setq, Let, Plus, Times, Print, Defvar, Defparameter, Ignored, LaterTop, Later}
+use Rattle.lisp_forms.specs.declared.operator.Operator.TheVariants as op
 use Rattle.lisp_forms.specs.declared.refusal.ExpandRefusal.{ExpandRefusal}
 use Rattle.lisp_forms.specs.declared.refusal.ExpandRefusal.TheVariants.{Refused as RefusedProgram, Memory}
+use Rattle.lisp_forms.specs.declared.levels.Level.TheVariants.{Block}
 use Rattle.lisp_forms.specs.declared.shape.Shape.{Shape}
-use Rattle.lisp_forms.specs.declared.shape.Shape.TheVariants.{Wrong, Leaf as LeafShape, Setting}
-use Rattle.lisp_forms.specs.Expansion.{Expansion, alone, forms_behind, forms_behind_two, let_variables, list_form, values_behind}
+use Rattle.lisp_forms.specs.declared.shape.Shape.TheVariants as shape
+use Rattle.lisp_forms.specs.Bindings.{is_text_first, list_fault, or_none, parameters_of, variables_of}
+use Rattle.lisp_forms.specs.Expansion.{function_body_in, leaf_single, list_form, parts_in}
 use Rattle.lisp_forms.specs.Operators.{operator_named}
-use Rattle.lisp_forms.specs.Shapes.{Scope, first_symbol, has, is_variable_name, leaf_form, name_of, operator_at, shape_of}
+use Rattle.lisp_forms.specs.Places.{parameters_in, scope_within}
+use Rattle.lisp_forms.specs.Rows.{defun_form, is_function}
+use Rattle.lisp_forms.specs.Scopes.{Scope, as_variable, first_symbol, has, inside, name_of}
+use Rattle.lisp_forms.specs.Shapes.{shape_of}
+use Rattle.lisp_forms.specs.Trees.{Expansion, Single, in_front, refused}
 
--- a leaf is a string
-abbrev pub is_text : Leaf → Bool
-is_text (Int z) = false
-is_text (Symbol x) = false
-is_text (Text x) = true
-is_text (Time t) = false
-
--- the first of these is a string
-abbrev pub is_text_first : Data → Bool
-is_text_first NoData = false
-is_text_first (Atom leaf p beside) = is_text leaf
-is_text_first (Listed p under beside) = false
-
--- a symbol that may be a variable
-abbrev pub as_variable : List (List ℕ) → Option ℕ → Option ℕ
-as_variable names None = None
-as_variable names (Some x) = if is_variable_name names x then Some x else None
+-- what stands in front of a list, whatever the program defines
+abbrev pub built_in : List (List ℕ) → Option ℕ → Option Operator
+built_in names None = None
+built_in names (Some x) = operator_named (name_of names x)
 
 -- behind `defvar` stand a name, or a name and a value, or these and a string; whether it is a name is looked at apart
 abbrev pub is_definition : Data → Bool
@@ -52,143 +44,169 @@ is_parameter args = (count_of args == 2) || ((count_of args == 3) && is_text_fir
 
 -- the variable that a list with this operator and these arguments defines
 abbrev pub defined_by : List (List ℕ) → Option Operator → Data → Option ℕ
-defined_by names None args = None
-defined_by names (Some Quote) args = None
-defined_by names (Some Progn) args = None
-defined_by names (Some Setq) args = None
-defined_by names (Some Let) args = None
-defined_by names (Some Plus) args = None
-defined_by names (Some Times) args = None
-defined_by names (Some Print) args = None
-defined_by names (Some Defvar) args = if is_definition args then as_variable names (first_symbol args) else None
-defined_by names (Some Defparameter) args = if is_parameter args then as_variable names (first_symbol args) else None
-defined_by names (Some Ignored) args = None
-defined_by names (Some LaterTop) args = None
-defined_by names (Some Later) args = None
-
--- the operator in front of a list, whatever the program defines
-abbrev pub built_in : List (List ℕ) → Option ℕ → Option Operator
-built_in names None = None
-built_in names (Some x) = operator_named (name_of names x)
+defined_by names (Some op.Defvar) args = if is_definition args then as_variable names (first_symbol args) else None
+defined_by names (Some op.Defparameter) args = if is_parameter args then as_variable names (first_symbol args) else None
+defined_by names _ args = None
 
 -- the variable that a list of these defines at top level
 abbrev pub definition_in : List (List ℕ) → Data → Option ℕ
 definition_in names under = defined_by names (built_in names (first_symbol under)) (behind 1 under)
 
--- the variable that the first of these defines at top level
+-- a fault that leaves a definition without its shape
+abbrev pub is_shapeless : Option ℕ → Bool
+is_shapeless None = false
+is_shapeless (Some number) = number == 12
+
+-- the function that a list with this operator and these arguments defines
+abbrev pub function_by : List (List ℕ) → Option Operator → Data → Option ℕ
+function_by names (Some op.Defun) args =
+    if is_shapeless (list_fault names (parameters_of (behind 1 args))) then None else as_variable names (first_symbol args)
+function_by names _ args = None
+
+-- the function that a list of these defines at top level
+abbrev pub function_in : List (List ℕ) → Data → Option ℕ
+function_in names under = function_by names (built_in names (first_symbol under)) (behind 1 under)
+
+-- the variable that a datum defines
 abbrev pub definition_of : List (List ℕ) → Data → Option ℕ
 definition_of names NoData = None
 definition_of names (Atom leaf p beside) = None
 definition_of names (Listed p under beside) = definition_in names under
 
--- one variable more, where it is new
-abbrev pub with_variable : Option ℕ → List ℕ → List ℕ
-with_variable None known = known
-with_variable (Some x) known = if has known x then known else known ++ x ∷ []
-
--- the variables that a program defines, in order of definition
-abbrev pub variables_from : List (List ℕ) → List ℕ → List Data → List ℕ
-variables_from names known [] = known
-variables_from names known (d ∷ ds) = variables_from names (with_variable (definition_of names d) known) ds
-
--- the name of the symbol in front
-abbrev pub first_name : List (List ℕ) → Option ℕ → List ℕ
-first_name names None = []
-first_name names (Some x) = name_of names x
-
--- the function that a list of these defines at top level
-abbrev pub function_in : List (List ℕ) → Data → Option ℕ
-function_in names under =
-    if bytes_eq (first_name names (first_symbol under)) (codes "DEFUN") then first_symbol (behind 1 under) else None
-
--- the function that the first of these defines at top level
+-- the function that a datum defines
 abbrev pub function_of : List (List ℕ) → Data → Option ℕ
 function_of names NoData = None
 function_of names (Atom leaf p beside) = None
 function_of names (Listed p under beside) = function_in names under
 
--- the functions that a program defines
+-- a name behind others, where there is one and it is new
+abbrev pub with_name : Option ℕ → List ℕ → List ℕ
+with_name None known = known
+with_name (Some x) known = if has known x then known else known ++ x ∷ []
+
+-- the variables that are defined in these and before them, in order of definition
+abbrev pub variables_from : List (List ℕ) → List ℕ → List Data → List ℕ
+variables_from names known [] = known
+variables_from names known (d ∷ ds) = variables_from names (with_name (definition_of names d) known) ds
+
+-- the functions that are defined in these and before them
 abbrev pub functions_from : List (List ℕ) → List ℕ → List Data → List ℕ
 functions_from names known [] = known
-functions_from names known (d ∷ ds) = functions_from names (with_variable (function_of names d) known) ds
+functions_from names known (d ∷ ds) = functions_from names (with_name (function_of names d) known) ds
 
--- the most special variables of a program
+-- the most special variables
 abbrev pub most_specials : ℕ
 most_specials = 256
 
--- an operator is `defvar`
+-- the most functions
+abbrev pub most_functions : ℕ
+most_functions = 1024
+
+-- a list is a `defvar`
 abbrev pub is_defvar : Option Operator → Bool
-is_defvar None = false
-is_defvar (Some Quote) = false
-is_defvar (Some Progn) = false
-is_defvar (Some Setq) = false
-is_defvar (Some Let) = false
-is_defvar (Some Plus) = false
-is_defvar (Some Times) = false
-is_defvar (Some Print) = false
-is_defvar (Some Defvar) = true
-is_defvar (Some Defparameter) = false
-is_defvar (Some Ignored) = false
-is_defvar (Some LaterTop) = false
-is_defvar (Some Later) = false
+is_defvar (Some op.Defvar) = true
+is_defvar _ = false
 
 -- a definition of a variable with these arguments, by `defvar` or else by `defparameter`
-abbrev pub definition_shape : ℕ → ℕ → (by_defvar : Bool) → Data → Shape
-definition_shape p x by_defvar args =
-    if by_defvar && (count_of args == 1) then LeafShape (Form (Constant (ASymbol x)))
-    else if by_defvar && (count_of args == 2) then Setting (DefvarForm x)
-    else Wrong 10 p
+abbrev pub definition_shape : ℕ → (by_defvar : Bool) → Data → Shape
+definition_shape x by_defvar args =
+    if by_defvar && (count_of args == 1) then shape.Leaf (Form (k.Constant (ASymbol x)))
+    else shape.Over (if by_defvar then k.Defvar x else k.Defparameter x) (Just 1)
 
--- a list with this operator at top level that defines no variable: it is ignored, not built yet, or as anywhere else
-abbrev pub undefining_shape : ℕ → Option Operator → Shape → Shape
-undefining_shape p None elsewhere = elsewhere
-undefining_shape p (Some Quote) elsewhere = elsewhere
-undefining_shape p (Some Progn) elsewhere = elsewhere
-undefining_shape p (Some Setq) elsewhere = elsewhere
-undefining_shape p (Some Let) elsewhere = elsewhere
-undefining_shape p (Some Plus) elsewhere = elsewhere
-undefining_shape p (Some Times) elsewhere = elsewhere
-undefining_shape p (Some Print) elsewhere = elsewhere
-undefining_shape p (Some Defvar) elsewhere = elsewhere
-undefining_shape p (Some Defparameter) elsewhere = elsewhere
-undefining_shape p (Some Ignored) elsewhere = LeafShape (Form (Constant nil))
-undefining_shape p (Some LaterTop) elsewhere = Wrong 10 p
-undefining_shape p (Some Later) elsewhere = elsewhere
+-- the same, where these variables are defined before it
+abbrev pub variable_shape : List ℕ → ℕ → ℕ → (by_defvar : Bool) → Data → Shape
+variable_shape known p x by_defvar args =
+    if has known x then shape.Wrong 18 p
+    else if length known == most_specials then shape.Wrong 17 p
+    else definition_shape x by_defvar args
 
--- a list of these at top level, where it defines this variable, and these are defined before it
-abbrev pub top_shape : Scope → List ℕ → ℕ → Option ℕ → Data → Shape
-top_shape s known p None under = undefining_shape p (operator_at s (first_symbol under)) (shape_of s p under)
-top_shape s known p (Some x) under =
-    if has known x then Wrong 18 p
-    else if length known == most_specials then Wrong 17 p
-    else definition_shape p x (is_defvar (built_in s.names (first_symbol under))) (behind 1 under)
+-- there is an operator or function
+abbrev pub is_built_in : Option Operator → Bool
+is_built_in None = false
+is_built_in (Some operator) = true
+
+-- A definition of a function whose parameters have this fault or none, where these functions are defined before it. A second
+-- one does not count among the functions.
+abbrev pub defun_shape : List (List ℕ) → List ℕ → ℕ → ℕ → Option ℕ → Shape
+defun_shape names known p f (Some number) =
+    if (number == 18) && not (has known f) then shape.Leaf (RefusedFunction 18) else shape.Wrong number p
+defun_shape names known p f None =
+    if has known f then shape.Wrong 18 p
+    else if is_built_in (operator_named (name_of names f)) then shape.Leaf (RefusedFunction 18)
+    else shape.Defun f
+
+-- an operator of the top level that is ignored there
+abbrev pub is_ignored : Option Operator → Bool
+is_ignored (Some op.Ignored) = true
+is_ignored _ = false
+
+-- what a list is that defines nothing at top level: one that is ignored is NIL, and any other is what it is elsewhere
+abbrev pub other_shape : Option Operator → Shape → Shape
+other_shape operator elsewhere = if is_ignored operator then shape.Leaf (Form (k.Constant nil)) else elsewhere
+
+-- what is defined before a form
+pub record Known : Type 0 where
+  pub variables : List ℕ
+  pub functions : List ℕ
+
+-- a list of these at top level, where it defines this variable or this function, or neither
+abbrev pub top_shape : Scope → Known → ℕ → Option ℕ → Option ℕ → Data → Shape
+top_shape s known p (Some x) f under =
+    variable_shape known.variables p x (is_defvar (built_in s.names (first_symbol under))) (behind 1 under)
+top_shape s known p None (Some f) under =
+    defun_shape s.names known.functions p f (list_fault s.names (parameters_of (behind 2 under)))
+top_shape s known p None None under = other_shape (built_in s.names (first_symbol under)) (shape_of s p under)
+
+-- what the body of a `defun` of this name with these parameters is read by
+abbrev pub scope_of_defun : Scope → ℕ → List ℕ → Scope
+scope_of_defun s f parameters = inside (scope_within s parameters) (Block f)
+
+-- what stands for a list of this shape with these arguments at top level
+abbrev pub top_list_form : Scope → ℕ → Shape → Data → Single
+top_list_form s p (shape.Defun f) args =
+    defun_form s p f (parameters_in (behind 1 args)) (function_body_in (scope_of_defun s f (parameters_in (behind 1 args))) 2 args)
+top_list_form s p other args = list_form s p other (or_none (variables_of args)) (parts_in s p args)
+
+-- a list of these at top level
+abbrev pub top_list : Scope → Known → ℕ → Data → Single
+top_list s known p NoData = refused 11 p
+top_list s known p (Listed q under args) = refused 11 p
+top_list s known p (Atom leaf q args) =
+    let under : Data = Atom leaf q args in
+    top_list_form s p (top_shape s known p (definition_in s.names under) (function_in s.names under) under) args
 
 -- the first of these as a form at top level
-abbrev pub top_form : Scope → List ℕ → Data → Expansion
-top_form s known NoData = NoTrees
-top_form s known (Atom leaf p beside) = alone (leaf_form s leaf) p
-top_form s known (Listed p under beside) =
-    list_form p (top_shape s known p (definition_in s.names under) under) (forms_behind s under) (forms_behind_two s under) (values_behind s under)
-    (let_variables (behind 1 under))
+abbrev pub top_form : Scope → Known → Data → Single
+top_form s known NoData = refused 11 0
+top_form s known (Atom leaf p beside) = leaf_single s leaf p
+top_form s known (Listed p under beside) = top_list s known p under
+
+-- what is known behind a datum
+abbrev pub known_behind : List (List ℕ) → Data → Known → Known
+known_behind names d known =
+    record { variables = with_name (definition_of names d) known.variables; functions = with_name (function_of names d) known.functions }
 
 -- each of these as a form at top level
-abbrev pub top_forms : Scope → List ℕ → List Data → Expansion
+abbrev pub top_forms : Scope → Known → List Data → Expansion
 top_forms s known [] = NoTrees
-top_forms s known (d ∷ ds) = joined (top_form s known d) (top_forms s (with_variable (definition_of s.names d) known) ds)
+top_forms s known (d ∷ ds) = in_front (top_form s known d) (top_forms s (known_behind s.names d known) ds)
 
 -- what the forms of a program are read by
-abbrev pub scope_of : List (List ℕ) → List Data → Scope
-scope_of names ds = record { names = names; specials = variables_from names [] ds; functions = functions_from names [] ds }
+abbrev pub scope_of : (names texts : List (List ℕ)) → List Data → Scope
+scope_of names texts ds =
+    record { names = names; texts = texts; specials = variables_from names [] ds; functions = functions_from names [] ds; levels = []; depth = 0 }
+
+-- nothing is known before the first form
+abbrev pub nothing_known : Known
+nothing_known = record { variables = []; functions = [] }
 
 -- what a program stands for, with what is refused of it in its place
-abbrev pub expansion_of : List (List ℕ) → List Data → Expansion
-expansion_of names ds = top_forms (scope_of names ds) [] ds
+abbrev pub expansion_of : (names texts : List (List ℕ)) → List Data → Expansion
+expansion_of names texts ds = top_forms (scope_of names texts ds) nothing_known ds
 
--- one refusal comes before another: what is not built yet comes after all else; then by place, and by number
+-- one refusal comes before another: by place, and at one place by number
 abbrev pub comes_before : Refusal → Refusal → Bool
-comes_before a b =
-    if a.number == 10 then (b.number == 10) && nat_lt a.place b.place
-    else (b.number == 10) || nat_lt a.place b.place || ((a.place == b.place) && nat_lt a.number b.number)
+comes_before a b = nat_lt a.place b.place || ((a.place == b.place) && nat_lt a.number b.number)
 
 -- the first of two
 abbrev pub earlier : Option Refusal → Option Refusal → Option Refusal
@@ -196,37 +214,87 @@ earlier None b = b
 earlier (Some a) None = Some a
 earlier (Some a) (Some b) = if comes_before b a then Some b else Some a
 
+-- what is refused with this number at this place
+abbrev pub refusal : ℕ → ℕ → Option Refusal
+refusal number p = Some (record { number = number; place = p })
+
 -- what is refused of a form by itself
 abbrev pub refusal_of : Expanded → ℕ → Option Refusal
-refusal_of (Form k) p = None
-refusal_of (Refused number) p = Some (record { number = number; place = p })
+refusal_of (Form kind) p = None
+refusal_of (Lambda parameters) p = None
+refusal_of (Defun f parameters) p = None
+refusal_of (Refused number) p = refusal number p
+refusal_of (RefusedFunction number) p = refusal number p
 
 -- the first refusal of these and that one
 abbrev pub first_refusal : Option Refusal → Expansion → Option Refusal
 first_refusal found NoTrees = found
-first_refusal found (Tree k p under beside) = first_refusal (first_refusal (earlier found (refusal_of k p)) under) beside
+first_refusal found (Tree kind p under beside) = first_refusal (first_refusal (earlier found (refusal_of kind p)) under) beside
 
--- the form that is not refused; what is given for one that is does not matter
-abbrev pub core_kind : Expanded → CoreKind
-core_kind (Form k) = k
-core_kind (Refused number) = Constant nil
+-- the places of the functions in these
+abbrev pub function_places : Expansion → List ℕ
+function_places NoTrees = []
+function_places (Tree kind p under beside) =
+    if is_function kind then p ∷ (function_places under ++ function_places beside) else function_places under ++ function_places beside
 
--- the same of forms beside one another
+-- how many of these places come before that one
+abbrev pub before : ℕ → List ℕ → ℕ
+before q [] = 0
+before q (p ∷ ps) = if nat_lt p q then suc (before q ps) else before q ps
+
+-- the first of these places before which there are as many of those as there may be
+abbrev pub past_limit : List ℕ → List ℕ → Option ℕ
+past_limit all [] = None
+past_limit all (p ∷ ps) = if before p all == most_functions then Some p else past_limit all ps
+
+-- a function past the limit is refused
+abbrev pub limit_refusal : Option ℕ → Option Refusal
+limit_refusal None = None
+limit_refusal (Some p) = refusal 17 p
+
+-- what is refused of a program
+abbrev pub program_refusal : Expansion → Option Refusal
+program_refusal e = earlier (first_refusal None e) (limit_refusal (past_limit (function_places e) (function_places e)))
+
+-- the kind of a form that is not refused; what is given for one that is does not matter
+abbrev pub core_kind : Expanded → ℕ → CoreKind
+core_kind (Form kind) p = kind
+core_kind (Lambda parameters) p = k.Function (At p)
+core_kind (Defun f parameters) p = k.Defun f
+core_kind (Refused number) p = k.Constant nil
+core_kind (RefusedFunction number) p = k.Constant nil
+
+-- the forms without the bodies of functions
 abbrev pub core_forms : Expansion → Forms
 core_forms NoTrees = NoTrees
-core_forms (Tree k p under beside) = Tree (core_kind k) p (core_forms under) (core_forms beside)
+core_forms (Tree kind p under beside) =
+    Tree (core_kind kind p) p (if is_function kind then NoTrees else core_forms under) (core_forms beside)
 
--- The data are a program where these are the names of its symbols: nothing in them is refused.
-pub record Expands (names : List (List ℕ)) (ds : List Data) (program : Program) : Type 0 where
-  pub accepted : first_refusal None (expansion_of names ds) ≡ None
-  pub forms : program.forms ≡ core_forms (expansion_of names ds)
+-- a function in front of others
+abbrev pub with_function : Expanded → ℕ → Forms → List Function → List Function
+with_function (Form kind) p body fs = fs
+with_function (Lambda parameters) p body fs = (record { name = At p; place = p; params = parameters; body = body }) ∷ fs
+with_function (Defun f parameters) p body fs = (record { name = Named f; place = p; params = parameters; body = body }) ∷ fs
+with_function (Refused number) p body fs = fs
+with_function (RefusedFunction number) p body fs = fs
+
+-- the functions in these, each before those in it
+abbrev pub functions_of : Expansion → List Function
+functions_of NoTrees = []
+functions_of (Tree kind p under beside) = with_function kind p (core_forms under) (functions_of under ++ functions_of beside)
+
+-- The data are a program where these are the names of its symbols and the texts of its string literals: nothing in them is refused.
+pub record Expands (names texts : List (List ℕ)) (ds : List Data) (program : Program) : Type 0 where
+  pub accepted : program_refusal (expansion_of names texts ds) ≡ None
+  pub forms : program.forms ≡ core_forms (expansion_of names texts ds)
+  pub functions : program.functions ≡ functions_of (expansion_of names texts ds)
   pub specials : program.specials ≡ variables_from names [] ds
 
 -- The data are refused with this number at this place: of all that is refused of them it comes first.
-abbrev pub IsRefused : List (List ℕ) → List Data → ℕ → ℕ → Type 0
-IsRefused names ds number place = first_refusal None (expansion_of names ds) ≡ Some (record { number = number; place = place })
+abbrev pub IsRefused : (names texts : List (List ℕ)) → List Data → ℕ → ℕ → Type 0
+IsRefused names texts ds number place = program_refusal (expansion_of names texts ds) ≡ refusal number place
 
 -- a refusal says why data are refused; want of memory says nothing
-abbrev pub IsRefusal : List (List ℕ) → List Data → ExpandRefusal → Type 0
-IsRefusal names ds (RefusedProgram number place) = IsRefused names ds number place
-IsRefusal names ds Memory = Unit {0}
+abbrev pub IsRefusal : (names texts : List (List ℕ)) → List Data → ExpandRefusal → Type 0
+IsRefusal names texts ds (RefusedProgram number place) = IsRefused names texts ds number place
+IsRefusal names texts ds Memory = Unit {0}

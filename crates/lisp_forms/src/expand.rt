@@ -1,60 +1,46 @@
-ghost use Rattle.std.specs.Prelude.{◌≡◌, ◌++◌, ◌∷◌, ◌<◌, ◌^◌, [], pos, length, IfOk, OnOk};
-ghost use Rattle.lisp_forms.specs.One.{bound_value, count_under, first_form, first_values};
-ghost use Rattle.lisp_forms.specs.Contexts.{scope_in};
-ghost use Rattle.lisp_forms.specs.Expansion.{forms_behind, forms_in, let_form, let_variables, list_form, sum_form, value_form, values_first, values_in};
-ghost use Rattle.lisp_forms.specs.Flat.{bind_nodes, flat, node, repeated};
-ghost use Rattle.lisp_forms.specs.Shapes.{constant as constant_of};
+ghost use Rattle.std.specs.Prelude.{◌≡◌, ◌++◌, OnOk};
+ghost use Rattle.lisp_forms.specs.Contexts.{scope_at};
+ghost use Rattle.lisp_forms.specs.Expansion.{by_roles, forms_in, function_body_in, list_form, listed, parts_in, placed as placed_in, placed_first};
+ghost use Rattle.lisp_forms.specs.Flat.{flat, flat_one};
+ghost use Rattle.lisp_forms.specs.One.{first_form, first_placed, let_variables};
+ghost use Rattle.lisp_forms.specs.Places.{parameters_in as parameters_of, scope_within};
+ghost use Rattle.lisp_forms.specs.Rows.{lambda_form};
+ghost use Rattle.lisp_forms.specs.Trees.{first as first_of, form};
 
-use crate::context::{Context, constant, first_symbol, leaf_form, operator_at};
+use crate::bindings::{function_body_of, parameters_in};
 use crate::expanded::{Expanded, ExpandedNode};
-use crate::refusal::UNKNOWN_OPERATOR;
-use crate::shape::{Shape, shape_led};
-use crate::variables::variables_of;
-use lisp_base::id::{Place, SymbolId};
+use crate::keywords::{Role, Roles, parts_of, role_at};
+use crate::levels::Levels;
+use crate::nodes::{push_form, push_nil, push_node};
+use crate::place::{Placed, misplaced_kind};
+use crate::refusal::BAD_FORM;
+use crate::scope::Base;
+use crate::shape::Shape;
+use crate::single::rest;
+use crate::special::{push_specials, special_parts};
+use crate::within::{leaf_within, placed_within, received_within, shape_within};
+use crate::{bodies, lets, locks, loops, rows};
+use lisp_base::id::Place;
 use lisp_base::memory::Memory;
-use lisp_base::value::{Node, Value};
 use lisp_program::form::CoreKind;
 use lisp_reader::items::{First, Items};
 use std::alloc::Global;
-
-/// Writes one node.
-pub fn push_node(
-    kind: Expanded,
-    place: Place,
-    parts: u32,
-    nodes: &mut Vec<ExpandedNode>,
-) -> Result<(), Memory>
-    ensures { OnOk result (nodes.new.items ≡ nodes.old.items ++ node kind place parts ∷ []) }
-{
-    nodes.push(ExpandedNode { kind, place, parts })?;
-    Ok(())
-}
-
-/// Writes a constant NIL.
-fn push_nil(place: Place, nodes: &mut Vec<ExpandedNode>) -> Result<(), Memory>
-    ensures { OnOk result (nodes.new.items ≡ nodes.old.items ++ node (Expanded.Form (CoreKind.Constant (Node.Symbol 0))) place 0 ∷ []) }
-{
-    push_node(
-        Expanded::Form(CoreKind::Constant(Value::nil())),
-        place,
-        0,
-        nodes,
-    )
-}
 
 /// Writes each of these as a form.
 #[cycle(forms)]
 pub fn push_all(
     alloc: Global,
-    context: &Context,
+    base: &Base,
+    levels: &Levels,
+    depth: u32,
     items: Items,
     nodes: &mut Vec<ExpandedNode>,
 ) -> Result<(), Memory>
-    ensures { OnOk result (nodes.new.items ≡ nodes.old.items ++ flat (forms_in (scope_in context.now) items.entry)) }
+    ensures { OnOk result (nodes.new.items ≡ nodes.old.items ++ flat (forms_in (scope_at base.now levels.now depth) items.entry)) }
 {
     let mut left = items;
     while let Some((first, others)) = left.split_first() {
-        push_first(alloc, context, first, nodes)?;
+        push_first(alloc, base, levels, depth, first, nodes)?;
         left = others;
     }
     Ok(())
@@ -62,17 +48,43 @@ pub fn push_all(
 
 /// Writes one as a form.
 #[cycle(forms)]
-fn push_first(
+pub fn push_first(
     alloc: Global,
-    context: &Context,
+    base: &Base,
+    levels: &Levels,
+    depth: u32,
     first: First,
     nodes: &mut Vec<ExpandedNode>,
 ) -> Result<(), Memory>
-    ensures { OnOk result (nodes.new.items ≡ nodes.old.items ++ flat (first_form (scope_in context.now) first.entry)) }
+    ensures { OnOk result (nodes.new.items ≡ nodes.old.items ++ flat_one (first_form (scope_at base.now levels.now depth) first.entry)) }
 {
     match first {
-        First::Leaf(leaf, place) => push_node(leaf_form(context, leaf), place, 0, nodes),
-        First::List(place, under) => push_list(alloc, context, place, under, nodes),
+        First::Leaf(leaf, place) => push_node(
+            leaf_within(base, levels, depth, leaf),
+            place,
+            0,
+            nodes,
+        ),
+        First::List(place, under) => push_list(alloc, base, levels, depth, place, under, nodes),
+    }
+}
+
+/// Writes the first of these as a form, or NIL where there is none.
+#[cycle(forms)]
+pub fn push_head(
+    alloc: Global,
+    base: &Base,
+    levels: &Levels,
+    depth: u32,
+    place: Place,
+    items: Items,
+    nodes: &mut Vec<ExpandedNode>,
+) -> Result<(), Memory>
+    ensures { OnOk result (nodes.new.items ≡ nodes.old.items ++ flat_one (first_of place (forms_in (scope_at base.now levels.now depth) items.entry))) }
+{
+    match items.split_first() {
+        None => push_nil(place, nodes),
+        Some((first, _)) => push_first(alloc, base, levels, depth, first, nodes),
     }
 }
 
@@ -80,20 +92,27 @@ fn push_first(
 #[cycle(forms)]
 fn push_list(
     alloc: Global,
-    context: &Context,
+    base: &Base,
+    levels: &Levels,
+    depth: u32,
     place: Place,
     under: Items,
     nodes: &mut Vec<ExpandedNode>,
 ) -> Result<(), Memory>
-    ensures { OnOk result (nodes.new.items ≡ nodes.old.items ++ flat (first_form (scope_in context.now) (First.List place under.entry))) }
+    ensures { OnOk result (nodes.new.items ≡ nodes.old.items ++ flat_one (listed (scope_at base.now levels.now depth) place under.entry)) }
 {
-    let operator = operator_at(context, first_symbol(&under));
-    match under.split_first() {
-        None => push_node(Expanded::Refused(UNKNOWN_OPERATOR), place, 0, nodes),
-        Some((_, arguments)) => match shape_led(alloc, context, place, operator, &arguments) {
-            Ok(shape) => push_shaped(alloc, context, shape, place, arguments, nodes),
-            Err(memory) => Err(memory),
-        },
+    match shape_within(alloc, base, levels, depth, place, &under) {
+        Ok(shape) => push_shaped(
+            alloc,
+            base,
+            levels,
+            depth,
+            shape,
+            place,
+            rest(&under, 1),
+            nodes,
+        ),
+        Err(memory) => Err(memory),
     }
 }
 
@@ -101,229 +120,241 @@ fn push_list(
 #[cycle(forms)]
 pub fn push_shaped(
     alloc: Global,
-    context: &Context,
+    base: &Base,
+    levels: &Levels,
+    depth: u32,
     shape: Shape,
     place: Place,
     arguments: Items,
     nodes: &mut Vec<ExpandedNode>,
 ) -> Result<(), Memory>
-    ensures { OnOk result (nodes.new.items ≡ nodes.old.items ++ flat (list_form place shape (forms_in (scope_in context.now) arguments.entry) (forms_behind (scope_in context.now) arguments.entry) (values_first (scope_in context.now) arguments.entry) (let_variables arguments.entry))) }
+    ensures { OnOk result (nodes.new.items ≡ nodes.old.items ++ flat_one (list_form (scope_at base.now levels.now depth) place shape (let_variables arguments.entry) (parts_in (scope_at base.now levels.now depth) place arguments.entry))) }
 {
     match shape {
         Shape::Wrong(number, at) => push_node(Expanded::Refused(number), at, 0, nodes),
         Shape::Leaf(kind) => push_node(kind, place, 0, nodes),
-        Shape::Call(kind) => {
-            push_node(Expanded::Form(kind), place, arguments.count(), nodes)?;
-            push_all(alloc, context, arguments, nodes)
+        Shape::Over(kind, roles) => push_over(
+            alloc, base, levels, depth, kind, roles, place, arguments, nodes,
+        ),
+        Shape::OverNil(kind, roles) => {
+            rows::push_over_nil(
+                alloc, base, levels, depth, kind, roles, place, arguments, nodes,
+            )
         }
-        Shape::Sum => push_sum(alloc, context, place, arguments, nodes),
-        Shape::Setting(kind) => push_setting(alloc, context, kind, place, arguments, nodes),
-        Shape::Binding => push_let(alloc, context, place, arguments, nodes),
+        Shape::When => rows::push_when(alloc, base, levels, depth, place, arguments, nodes),
+        Shape::Unless => rows::push_unless(alloc, base, levels, depth, place, arguments, nodes),
+        Shape::Cond => rows::push_cond(alloc, base, levels, depth, place, arguments, nodes),
+        Shape::And => rows::push_and(alloc, base, levels, depth, place, arguments, nodes),
+        Shape::Or => rows::push_or(alloc, base, levels, depth, place, arguments, nodes),
+        Shape::Prog1 => rows::push_prog1(alloc, base, levels, depth, place, arguments, nodes),
+        Shape::Setq => rows::push_setq(alloc, base, levels, depth, place, arguments, nodes),
+        Shape::Change(target, function) => {
+            rows::push_change(
+                alloc, base, levels, depth, target, function, place, arguments, nodes,
+            )
+        }
+        Shape::Fold(function) => {
+            rows::push_fold(
+                alloc, base, levels, depth, function, place, arguments, nodes,
+            )
+        }
+        Shape::Twice(function) => {
+            rows::push_twice(
+                alloc, base, levels, depth, function, place, arguments, nodes,
+            )
+        }
+        Shape::Let => lets::push_let(alloc, base, levels, depth, place, arguments, nodes),
+        Shape::LetStar => lets::push_let_star(alloc, base, levels, depth, place, arguments, nodes),
+        Shape::Body(kind) => bodies::push_body_form(
+            alloc, base, levels, depth, kind, place, arguments, nodes,
+        ),
+        Shape::LocalInterrupts(number) => {
+            bodies::push_local_interrupts(
+                alloc, base, levels, depth, number, place, arguments, nodes,
+            )
+        }
+        Shape::Without => bodies::push_without(alloc, base, levels, depth, place, arguments, nodes),
+        Shape::Block(name) => bodies::push_block(
+            alloc, base, levels, depth, name, place, arguments, nodes,
+        ),
+        Shape::Catch => bodies::push_catch(alloc, base, levels, depth, place, arguments, nodes),
+        Shape::Loop => loops::push_loop(alloc, base, levels, depth, place, arguments, nodes),
+        Shape::Dotimes(variable) => {
+            loops::push_dotimes(
+                alloc, base, levels, depth, variable, place, arguments, nodes,
+            )
+        }
+        Shape::IgnoreErrors => rows::push_ignore(
+            alloc, base, levels, depth, place, arguments, nodes,
+        ),
+        Shape::Handler => bodies::push_handler(alloc, base, levels, depth, place, arguments, nodes),
+        Shape::Deadline { seconds, replaces } => bodies::push_deadline(
+            alloc, base, levels, depth, seconds, replaces, place, arguments, nodes,
+        ),
+        Shape::Mutex { waitp, timeout } => {
+            locks::push_mutex(
+                alloc, base, levels, depth, waitp, timeout, place, arguments, nodes,
+            )
+        }
+        Shape::RecursiveLock => locks::push_lock(
+            alloc, base, levels, depth, place, arguments, nodes,
+        ),
+        Shape::Timeout => locks::push_timeout(alloc, base, levels, depth, place, arguments, nodes),
+        Shape::Terminate => rows::push_terminate(
+            alloc, base, levels, depth, place, arguments, nodes,
+        ),
+        Shape::Defun(_) => push_node(Expanded::Refused(BAD_FORM), place, 0, nodes),
     }
 }
 
-/// Writes a form with what stands behind the first of these under it.
+/// Writes a form of this kind with these under it, by what they are for.
 #[cycle(forms)]
-fn push_setting(
+fn push_over(
     alloc: Global,
-    context: &Context,
+    base: &Base,
+    levels: &Levels,
+    depth: u32,
     kind: CoreKind,
+    roles: Roles,
     place: Place,
     arguments: Items,
     nodes: &mut Vec<ExpandedNode>,
 ) -> Result<(), Memory>
-    ensures { OnOk result (nodes.new.items ≡ nodes.old.items ++ flat (list_form place (Shape.Setting kind) (forms_in (scope_in context.now) arguments.entry) (forms_behind (scope_in context.now) arguments.entry) (values_first (scope_in context.now) arguments.entry) (let_variables arguments.entry))) }
+    ensures { OnOk result (nodes.new.items ≡ nodes.old.items ++ flat_one (form kind place (by_roles (scope_at base.now levels.now depth) roles 0 arguments.entry))) }
 {
-    match arguments.split_first() {
-        None => push_node(Expanded::Form(kind), place, 0, nodes),
-        Some((_, others)) => {
-            push_node(Expanded::Form(kind), place, others.count(), nodes)?;
-            push_all(alloc, context, others, nodes)
-        }
-    }
+    // The law that they are few.
+    arguments.are_few();
+    let parts = parts_of(roles, arguments.count());
+    push_form(kind, place, parts, nodes)?;
+    push_by_roles(alloc, base, levels, depth, roles, arguments, nodes)
 }
 
-/// Writes so many sums of two.
-fn push_sums(count: u32, place: Place, nodes: &mut Vec<ExpandedNode>) -> Result<(), Memory>
-    ensures { OnOk result (nodes.new.items ≡ nodes.old.items ++ repeated count (node (Expanded.Form CoreKind.Plus) place 2)) }
-{
-    for _done in 0..count {
-        push_node(Expanded::Form(CoreKind::Plus), place, 2, nodes)?;
-    }
-    Ok(())
-}
-
-/// Writes the sum of these.
+/// Writes each of these by what it is for.
 #[cycle(forms)]
-fn push_sum(
+pub fn push_by_roles(
     alloc: Global,
-    context: &Context,
-    place: Place,
-    arguments: Items,
+    base: &Base,
+    levels: &Levels,
+    depth: u32,
+    roles: Roles,
+    items: Items,
     nodes: &mut Vec<ExpandedNode>,
 ) -> Result<(), Memory>
-    ensures { OnOk result (nodes.new.items ≡ nodes.old.items ++ flat (sum_form place (forms_in (scope_in context.now) arguments.entry))) }
+    ensures { OnOk result (nodes.new.items ≡ nodes.old.items ++ flat (by_roles (scope_at base.now levels.now depth) roles 0 items.entry)) }
 {
-    let count = arguments.count();
-    if count == 0 {
-        return push_zero(place, nodes);
-    }
-    if count == 1 {
-        push_sums(1, place, nodes)?;
-        push_zero(place, nodes)?;
-        return push_all(alloc, context, arguments, nodes);
-    }
-    push_sums(count - 1, place, nodes)?;
-    push_all(alloc, context, arguments, nodes)
-}
-
-/// Writes a constant 0.
-fn push_zero(place: Place, nodes: &mut Vec<ExpandedNode>) -> Result<(), Memory>
-    ensures { OnOk result (nodes.new.items ≡ nodes.old.items ++ node (constant_of (Node.Int (pos 0))) place 0 ∷ []) }
-{
-    push_node(constant(Node::Int(0)), place, 0, nodes)
-}
-
-/// The variables of a `let` with these arguments.
-fn variables_in(alloc: Global, arguments: &Items) -> Result<Vec<SymbolId>, Memory>
-    ensures { IfOk result (λ variables. variables.items ≡ let_variables arguments.now) }
-{
-    match variables_of(alloc, arguments)? {
-        Some(variables) => Ok(variables),
-        None => Ok(Vec::new(alloc)),
-    }
-}
-
-/// How many bindings this is a list of.
-fn bindings_in(first: &First) -> u32
-    ensures is { result ≡ count_under first.now }
-    ensures few { result < 2 ^ 30 }
-{
-    match first {
-        First::Leaf(_, _) => 0,
-        First::List(_, bindings) => {
-            // The law that the items of a list are few.
-            bindings.are_few();
-            bindings.count()
-        }
-    }
-}
-
-/// Writes a `let` with these arguments.
-#[cycle(forms)]
-fn push_let(
-    alloc: Global,
-    context: &Context,
-    place: Place,
-    arguments: Items,
-    nodes: &mut Vec<ExpandedNode>,
-) -> Result<(), Memory>
-    ensures { OnOk result (nodes.new.items ≡ nodes.old.items ++ flat (let_form place (let_variables arguments.entry) (values_first (scope_in context.now) arguments.entry) (forms_behind (scope_in context.now) arguments.entry))) }
-{
-    let variables = variables_in(alloc, &arguments)?;
-    let Some((first, body)) = arguments.split_first() else {
-        return push_node(Expanded::Form(CoreKind::Progn), place, 0, nodes);
-    };
-    if variables.is_empty() {
-        push_node(Expanded::Form(CoreKind::Progn), place, body.count(), nodes)?;
-        return push_all(alloc, context, body, nodes);
-    }
-    let count = bindings_in(&first);
-    push_node(Expanded::Form(CoreKind::Let), place, count + 1, nodes)?;
-    push_first_values(alloc, context, first, nodes)?;
-    push_binds(place, variables.as_slice(), body.count(), nodes)?;
-    push_all(alloc, context, body, nodes)
-}
-
-/// Writes the values of the bindings in this list.
-#[cycle(forms)]
-fn push_first_values(
-    alloc: Global,
-    context: &Context,
-    first: First,
-    nodes: &mut Vec<ExpandedNode>,
-) -> Result<(), Memory>
-    ensures { OnOk result (nodes.new.items ≡ nodes.old.items ++ flat (first_values (scope_in context.now) first.entry)) }
-{
-    match first {
-        First::Leaf(_, _) => Ok(()),
-        First::List(_, bindings) => push_values(alloc, context, bindings, nodes),
-    }
-}
-
-/// Writes the values of these bindings.
-#[cycle(forms)]
-fn push_values(
-    alloc: Global,
-    context: &Context,
-    bindings: Items,
-    nodes: &mut Vec<ExpandedNode>,
-) -> Result<(), Memory>
-    ensures { OnOk result (nodes.new.items ≡ nodes.old.items ++ flat (values_in (scope_in context.now) bindings.entry)) }
-{
-    let mut left = bindings;
+    // The law that they are few.
+    items.are_few();
+    let mut index = 0;
+    let mut left = items;
     while let Some((first, others)) = left.split_first() {
-        push_bound(alloc, context, first, nodes)?;
+        match role_at(roles, index) {
+            Role::Value => push_first(alloc, base, levels, depth, first, nodes)?,
+            Role::Place => push_placed(alloc, base, levels, depth, first, nodes)?,
+            Role::Skipped => (),
+        }
+        index += 1;
         left = others;
     }
     Ok(())
 }
 
-/// Writes the value of a binding.
+/// Writes one that stands in a function's place.
 #[cycle(forms)]
-fn push_bound(
+fn push_placed(
     alloc: Global,
-    context: &Context,
+    base: &Base,
+    levels: &Levels,
+    depth: u32,
     first: First,
     nodes: &mut Vec<ExpandedNode>,
 ) -> Result<(), Memory>
-    ensures { OnOk result (nodes.new.items ≡ nodes.old.items ++ flat (bound_value (scope_in context.now) first.entry)) }
+    ensures { OnOk result (nodes.new.items ≡ nodes.old.items ++ flat_one (first_placed (scope_at base.now levels.now depth) first.entry)) }
 {
     match first {
-        First::Leaf(_, place) => push_nil(place, nodes),
-        First::List(place, under) => push_value(alloc, context, place, under, nodes),
+        First::Leaf(leaf, place) => {
+            push_node(
+                misplaced_kind(leaf_within(base, levels, depth, leaf)),
+                place,
+                0,
+                nodes,
+            )
+        }
+        First::List(place, under) => push_placed_list(
+            alloc, base, levels, depth, place, under, nodes,
+        ),
     }
 }
 
-/// Writes the value of the binding that is a list of these.
+/// Writes a list of these that stands in a function's place.
 #[cycle(forms)]
-fn push_value(
+fn push_placed_list(
     alloc: Global,
-    context: &Context,
+    base: &Base,
+    levels: &Levels,
+    depth: u32,
     place: Place,
     under: Items,
     nodes: &mut Vec<ExpandedNode>,
 ) -> Result<(), Memory>
-    ensures { OnOk result (nodes.new.items ≡ nodes.old.items ++ flat (value_form place (forms_behind (scope_in context.now) under.entry))) }
+    ensures { OnOk result (nodes.new.items ≡ nodes.old.items ++ flat_one (placed_in (scope_at base.now levels.now depth) place under.entry)) }
 {
-    let Some((_, value)) = under.split_first() else {
-        return push_nil(place, nodes);
-    };
-    if value.count() == 0 {
-        return push_nil(place, nodes);
+    let arguments = rest(&under, 1);
+    match placed_within(alloc, base, levels, depth, place, &under) {
+        Ok(Placed::Made) => push_lambda(alloc, base, levels, depth, place, arguments, nodes),
+        Ok(Placed::Inner) => push_inner(alloc, base, levels, depth, arguments, nodes),
+        Ok(Placed::Other(kind)) => push_node(kind, place, 0, nodes),
+        Err(memory) => Err(memory),
     }
-    push_all(alloc, context, value, nodes)
 }
 
-/// Writes the bindings of these variables, one in another, the last with `body` forms under it.
-fn push_binds(
-    place: Place,
-    variables: &[SymbolId],
-    body: u32,
+/// Writes the list that is the first of these, which stands in a function's place.
+#[cycle(forms)]
+fn push_inner(
+    alloc: Global,
+    base: &Base,
+    levels: &Levels,
+    depth: u32,
+    arguments: Items,
     nodes: &mut Vec<ExpandedNode>,
 ) -> Result<(), Memory>
-    requires { length variables.now < 2 ^ 30 }
-    ensures { OnOk result (nodes.new.items ≡ nodes.old.items ++ bind_nodes place body variables.now) }
+    ensures { OnOk result (nodes.new.items ≡ nodes.old.items ++ flat_one (placed_first (scope_at base.now levels.now depth) arguments.entry)) }
 {
-    for (index, variable) in variables.iter().enumerate() {
-        let above = variables.len() - 1 - index;
-        let parts = if above == 0 { body } else { 1 };
-        push_node(
-            Expanded::Form(CoreKind::Bind(*variable, above as u32)),
-            place,
-            parts,
-            nodes,
-        )?;
+    let Some((first, _)) = arguments.split_first() else {
+        return push_node(Expanded::Refused(BAD_FORM), Place(0), 0, nodes);
+    };
+    match first {
+        First::Leaf(_, _) => push_node(Expanded::Refused(BAD_FORM), Place(0), 0, nodes),
+        First::List(place, under) => push_placed_list(
+            alloc, base, levels, depth, place, under, nodes,
+        ),
     }
-    Ok(())
+}
+
+/// Writes a `lambda` with these arguments.
+#[cycle(forms)]
+fn push_lambda(
+    alloc: Global,
+    base: &Base,
+    levels: &Levels,
+    depth: u32,
+    place: Place,
+    arguments: Items,
+    nodes: &mut Vec<ExpandedNode>,
+) -> Result<(), Memory>
+    ensures { OnOk result (nodes.new.items ≡ nodes.old.items ++ flat_one (lambda_form (scope_at base.now levels.now depth) place (parameters_of arguments.entry) (function_body_in (scope_within (scope_at base.now levels.now depth) (parameters_of arguments.entry)) 1 arguments.entry))) }
+{
+    let parameters = parameters_in(alloc, &arguments)?;
+    let open = received_within(alloc, base, levels, depth, parameters.as_slice())?;
+    let body = function_body_of(base.symbols, rest(&arguments, 1));
+    let count = open.depth;
+    let parts = special_parts(base.specials, parameters.as_slice(), body.count());
+    push_node(Expanded::Lambda(count), place, parts, nodes)?;
+    push_specials(
+        base.specials,
+        place,
+        parameters.as_slice(),
+        body.count(),
+        nodes,
+    )?;
+    push_all(alloc, base, &open.levels, open.depth, body, nodes)
 }

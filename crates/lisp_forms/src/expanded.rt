@@ -1,11 +1,19 @@
-use lisp_base::id::Place;
+use lisp_base::id::{Place, SymbolId};
 use lisp_program::form::CoreKind;
 
-/// What a datum is expanded to by itself: a form of this kind, or what is refused, with its number.
+/// What a datum is expanded to by itself.
 #[derive(Clone, Copy, Debug, PartialEq, Eq)]
 pub enum Expanded {
+    /// A form of this kind.
     Form(CoreKind),
+    /// A `lambda` with so many parameters; its body stands under it.
+    Lambda(u32),
+    /// A `defun` of this function with so many parameters; its body stands under it.
+    Defun(SymbolId, u32),
+    /// What is refused with this number.
     Refused(u32),
+    /// A function that is refused with this number, and counts among the functions all the same.
+    RefusedFunction(u32),
 }
 
 /// One form of an expansion in preorder: what it is, its place, and how many forms stand directly under it.

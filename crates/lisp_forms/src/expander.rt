@@ -1,29 +1,26 @@
-ghost use Rattle.std.specs.Prelude.{◌≡◌, None, IfOk, map};
+ghost use Rattle.std.specs.Prelude.{◌≡◌, ◌++◌, None, IfOk, OnOk};
 ghost use Rattle.std.specs.Result.{IfErr};
-ghost use Rattle.lisp_program.specs.Forms.{forms_of, preorder};
-ghost use Rattle.lisp_forms.specs.Contexts.{program_with};
-ghost use Rattle.lisp_forms.specs.Flat.{core_node, first_of};
-ghost use Rattle.lisp_forms.specs.Program.{Expands, IsRefusal, comes_before as refusal_comes_before, core_kind as core_kind_of, earlier as earlier_of, refusal_of as refusal_in};
+ghost use Rattle.lisp_program.specs.Program.{AreWhole, program_of};
+ghost use Rattle.lisp_forms.specs.Flat.{flat};
+ghost use Rattle.lisp_forms.specs.Program;
+ghost use Rattle.lisp_forms.specs.Trees.{Expansion};
+ghost use Rattle.lisp_forms.specs.Written.{one_before, place_here};
 
-use crate::context::Context;
+use crate::blocks::is_function;
 use crate::expanded::{Expanded, ExpandedNode};
-use crate::program::{expansion, functions, variables};
-use crate::refusal::{ExpandRefusal, NOT_BUILT};
-use lisp_base::id::{Place, SymbolId};
+use crate::levels::Levels;
+use crate::program::{functions, variables};
+use crate::refusal::{ExpandRefusal, TOO_MANY};
+use crate::scope::Base;
+use crate::split::split;
+use crate::top::expansion;
+use lisp_base::id::Place;
 use lisp_base::memory::Memory;
-use lisp_base::value::Value;
-use lisp_program::form::{CoreKind, FormNode, Program};
+use lisp_program::form;
 use lisp_reader::datum::Datum;
 use std::alloc::Global;
 use symbol_table::symbols::Symbols;
-
-/// A program that data stand for.
-#[derive(Debug, Drop)]
-pub struct Expansion {
-    pub program: Program,
-    /// Its special variables, in order of definition.
-    pub specials: Vec<SymbolId>,
-}
+use symbol_table::texts::Texts;
 
 /// What is refused, and where.
 #[derive(Clone, Copy, Debug, PartialEq, Eq)]
@@ -32,22 +29,19 @@ pub struct Refusal {
     pub place: Place,
 }
 
+/// A program may have so many functions.
+const MOST_FUNCTIONS: usize = 1024;
+
 /// Whether one refusal comes before another.
 fn comes_before(one: &Refusal, other: &Refusal) -> bool
-    ensures { result ≡ refusal_comes_before one.now other.now }
+    ensures { result ≡ Program.comes_before one.now other.now }
 {
-    let is_earlier = one.place.0 < other.place.0;
-    if one.number == NOT_BUILT {
-        return other.number == NOT_BUILT && is_earlier;
-    }
-    other.number == NOT_BUILT
-        || is_earlier
-        || (one.place == other.place && one.number < other.number)
+    one.place.0 < other.place.0 || (one.place == other.place && one.number < other.number)
 }
 
 /// The first of two refusals.
 fn earlier(one: Option<Refusal>, other: Option<Refusal>) -> Option<Refusal>
-    ensures { result ≡ earlier_of one other }
+    ensures { result ≡ Program.earlier one other }
 {
     match (one, other) {
         (Some(first), Some(second)) => {
@@ -64,20 +58,20 @@ fn earlier(one: Option<Refusal>, other: Option<Refusal>) -> Option<Refusal>
 
 /// What is refused of a node by itself.
 fn refusal_of(node: &ExpandedNode) -> Option<Refusal>
-    ensures { result ≡ refusal_in node.now.kind node.now.place }
+    ensures { result ≡ Program.refusal_of node.now.kind node.now.place }
 {
     match node.kind {
-        Expanded::Form(_) => None,
-        Expanded::Refused(number) => Some(Refusal {
+        Expanded::Refused(number) | Expanded::RefusedFunction(number) => Some(Refusal {
             number,
             place: node.place,
         }),
+        _ => None,
     }
 }
 
 /// The first refusal among these nodes.
 fn first_refusal(nodes: &[ExpandedNode]) -> Option<Refusal>
-    ensures { result ≡ first_of None nodes.now }
+    ensures { (e : Expansion) → nodes.now ≡ flat e → result ≡ Program.first_refusal None e }
 {
     let mut found = None;
     for node in nodes {
@@ -86,59 +80,102 @@ fn first_refusal(nodes: &[ExpandedNode]) -> Option<Refusal>
     found
 }
 
-/// The kind of a form that is not refused.
-fn core_kind(kind: Expanded) -> CoreKind
-    ensures { result ≡ core_kind_of kind }
+/// The places of the functions among these nodes.
+fn function_places(alloc: Global, nodes: &[ExpandedNode]) -> Result<Vec<Place>, Memory>
+    ensures { IfOk result (λ places. (e : Expansion) → nodes.now ≡ flat e → places.items ≡ Program.function_places e) }
 {
-    match kind {
-        Expanded::Form(kind) => kind,
-        Expanded::Refused(_) => CoreKind::Constant(Value::nil()),
-    }
-}
-
-/// The forms of nodes of which none is refused.
-fn core_nodes(alloc: Global, nodes: &[ExpandedNode]) -> Result<Vec<FormNode>, Memory>
-    ensures { IfOk result (λ forms. forms.items ≡ map core_node nodes.now) }
-{
-    let mut forms = Vec::new(alloc);
+    let mut places = Vec::new(alloc);
     for node in nodes {
-        forms.push(FormNode {
-            kind: core_kind(node.kind),
-            place: node.place,
-            parts: node.parts,
-        })?;
+        push_place(node, &mut places)?;
     }
-    Ok(forms)
+    Ok(places)
 }
 
-/// The program that data stand for, where these are the names of its symbols. It errs with the first refusal of the data, and where
-/// memory runs out.
+/// Writes the place of a node that is a function.
+fn push_place(node: &ExpandedNode, places: &mut Vec<Place>) -> Result<(), Memory>
+    ensures { OnOk result (places.new.items ≡ places.old.items ++ place_here node.now) }
+{
+    if is_function(&node.kind) {
+        places.push(node.place)?;
+    }
+    Ok(())
+}
+
+/// How many of these places come before that one.
+fn before(place: Place, places: &[Place]) -> usize
+    ensures { result ≡ Program.before place places.now }
+{
+    let mut count = 0;
+    for other in places {
+        count += one_before(place, *other);
+    }
+    count
+}
+
+/// One for a place before this one, and none for another.
+fn one_before(place: Place, other: Place) -> usize
+    ensures { result ≡ one_before place other }
+{
+    if other.0 < place.0 { 1 } else { 0 }
+}
+
+/// The first of these places before which there are as many as there may be.
+fn past_limit(places: &[Place]) -> Option<Place>
+    ensures { result ≡ Program.past_limit places.now places.now }
+{
+    if places.len() <= MOST_FUNCTIONS {
+        return None;
+    }
+    for place in places {
+        if before(*place, places) == MOST_FUNCTIONS {
+            return Some(*place);
+        }
+    }
+    None
+}
+
+/// What is refused of a program with these nodes.
+fn program_refusal(alloc: Global, nodes: &[ExpandedNode]) -> Result<Option<Refusal>, Memory>
+    ensures { IfOk result (λ refusal. (e : Expansion) → nodes.now ≡ flat e → refusal ≡ Program.program_refusal e) }
+{
+    let places = function_places(alloc, nodes)?;
+    let past = past_limit(places.as_slice());
+    let limit = past.map(|place| Refusal {
+        number: TOO_MANY,
+        place,
+    });
+    Ok(earlier(first_refusal(nodes), limit))
+}
+
+/// The program that data stand for, where these are the names of its symbols and the texts of its string literals. It errs with what
+/// is refused of the data, by the least place and there by the least number, and where memory runs out.
 pub fn expand(
     alloc: Global,
     program: &[Datum],
     symbols: &Symbols,
-) -> Result<Expansion, ExpandRefusal>
-    ensures expanded { IfOk result (λ expansion. Expands symbols.now program.now (program_with expansion.program expansion.specials.items)) }
-    ensures whole { IfOk result (λ expansion. preorder (forms_of expansion.program) ≡ expansion.program) }
-    ensures refused { IfErr result (IsRefusal symbols.now program.now) }
+    texts: &Texts,
+) -> Result<form::Program, ExpandRefusal>
+    ensures expanded { IfOk result (λ p. Program.Expands symbols.now texts.now program.now (program_of p)) }
+    ensures whole { IfOk result (λ p. AreWhole p.main) }
+    ensures refused { IfErr result (Program.IsRefusal symbols.now texts.now program.now) }
 {
     let specials = variables(alloc, symbols, program)?;
     let functions = functions(alloc, symbols, program)?;
-    let context = Context {
+    let levels = Levels::none(alloc);
+    let base = Base {
         symbols,
+        texts,
         specials: specials.as_slice(),
         functions: functions.as_slice(),
     };
-    let nodes = expansion(alloc, &context, program)?;
-    if let Some(refusal) = first_refusal(nodes.as_slice()) {
+    let expansion = expansion(alloc, &base, &levels, program)?;
+    let nodes = expansion.as_slice();
+    if let Some(refusal) = program_refusal(alloc, nodes)? {
         return Err(ExpandRefusal::Refused {
             number: refusal.number,
             place: refusal.place,
         });
     }
-    let forms = core_nodes(alloc, nodes.as_slice())?;
-    Ok(Expansion {
-        program: Program::of(forms),
-        specials,
-    })
+    let (main, functions) = split(alloc, program.len(), nodes)?;
+    Ok(form::Program::of(main, functions, specials))
 }

@@ -1,236 +1,264 @@
 ghost use Rattle.std.specs.Prelude.{◌≡◌};
 ghost use Rattle.lisp_forms.specs.Operators;
 
+use lisp_base::id::SymbolId;
+use lisp_program::function::{Primitive, Printing, Service};
+
 /// What a name means in front of a list.
 #[derive(Clone, Copy, Debug, PartialEq, Eq)]
 pub enum Operator {
     Quote,
+    Function,
+    Lambda,
     Progn,
-    Setq,
+    If,
     Let,
-    Plus,
-    Times,
-    Print,
+    LetStar,
+    /// `setq` or `setf`.
+    Setq,
+    CompareAndSwap,
+    Declare,
+    Block,
+    ReturnFrom,
+    Return,
+    Catch,
+    Throw,
+    UnwindProtect,
+    HandlerCase,
+    IgnoreErrors,
+    Error,
+    WithoutInterrupts,
+    AllowWithInterrupts,
+    WithInterrupts,
+    WithLocalInterrupts,
+    WithDeadline,
+    WithTimeout,
+    WithMutex,
+    WithRecursiveLock,
+    AbortThread,
+    ReturnFromThread,
+    TerminateThread,
+    When,
+    Unless,
+    Cond,
+    And,
+    Or,
+    Prog1,
+    Incf,
+    Decf,
+    Loop,
+    Dotimes,
     Defvar,
-    /// `defparameter`, which defines a variable, and of which no form is built yet.
     Defparameter,
+    Defun,
     /// An operator of the top level that is NIL there, whatever it holds: `in-package`, `declaim` or `use-package`.
     Ignored,
-    /// Another operator of the top level that is not built yet: `defun`.
-    LaterTop,
-    /// Any other operator or function that is not built yet.
-    Later,
+    /// A function of two that is folded over any number of arguments.
+    Fold(Primitive),
+    /// A function of so many arguments.
+    Apply(Primitive, u32),
+    /// A function of printing, of so many arguments.
+    Print(Printing, u32),
+    Format,
+    /// A function of threads, mutexes, waitqueues, time or timers, with none of its keywords.
+    Serve(Service),
+    /// A function of the program.
+    Own(SymbolId),
 }
 
-/// Whether this is an operator of the top level that is NIL there, whatever it holds.
-fn is_ignored(name: &str) -> bool
-    ensures { result ≡ Operators.is_ignored name.now }
-{
-    name == "IN-PACKAGE" || name == "DECLAIM" || name == "USE-PACKAGE"
-}
-
-/// Whether this is an operator of control that is not built yet.
-fn is_later_control(name: &str) -> bool
-    ensures { result ≡ Operators.is_later_control name.now }
-{
-    name == "IF"
-        || name == "BLOCK"
-        || name == "RETURN-FROM"
-        || name == "CATCH"
-        || name == "THROW"
-        || name == "UNWIND-PROTECT"
-        || name == "HANDLER-CASE"
-        || name == "ERROR"
-        || name == "FUNCTION"
-        || name == "LAMBDA"
-        || name == "ABORT-THREAD"
-        || name == "RETURN-FROM-THREAD"
-}
-
-/// Whether this is an operator of regions, deadlines, mutexes or threads that is not built yet.
-fn is_later_region(name: &str) -> bool
-    ensures { result ≡ Operators.is_later_region name.now }
-{
-    name == "WITHOUT-INTERRUPTS"
-        || name == "ALLOW-WITH-INTERRUPTS"
-        || name == "WITH-INTERRUPTS"
-        || name == "WITH-LOCAL-INTERRUPTS"
-        || name == "WITH-DEADLINE"
-        || name == "WITH-TIMEOUT"
-        || name == "WITH-MUTEX"
-        || name == "WITH-RECURSIVE-LOCK"
-        || name == "COMPARE-AND-SWAP"
-        || name == "TERMINATE-THREAD"
-}
-
-/// Whether this is `declare`, or a form that stands for others and is not built yet.
-fn is_later_derived(name: &str) -> bool
-    ensures { result ≡ Operators.is_later_derived name.now }
-{
-    name == "LET*"
-        || name == "WHEN"
-        || name == "UNLESS"
-        || name == "COND"
-        || name == "AND"
-        || name == "OR"
-        || name == "PROG1"
-        || name == "SETF"
-        || name == "INCF"
-        || name == "DECF"
-        || name == "DECLARE"
-}
-
-/// Whether this is a loop or a handler that stands for other forms and is not built yet.
-fn is_later_loop(name: &str) -> bool
-    ensures { result ≡ Operators.is_later_loop name.now }
-{
-    name == "LOOP" || name == "DOTIMES" || name == "RETURN" || name == "IGNORE-ERRORS"
-}
-
-/// Whether this is a function of numbers that is not built yet.
-fn is_later_number(name: &str) -> bool
-    ensures { result ≡ Operators.is_later_number name.now }
-{
-    name == "-"
-        || name == "MAX"
-        || name == "MIN"
-        || name == "1+"
-        || name == "1-"
-        || name == "ABS"
-        || name == "FLOOR"
-        || name == "TRUNCATE"
-        || name == "MOD"
-        || name == "REM"
-}
-
-/// Whether this is a test of numbers that is not built yet.
-fn is_later_order(name: &str) -> bool
-    ensures { result ≡ Operators.is_later_order name.now }
-{
-    name == "="
-        || name == "/="
-        || name == "<"
-        || name == ">"
-        || name == "<="
-        || name == ">="
-        || name == "ZEROP"
-}
-
-/// Whether this is any other test that is not built yet.
-fn is_later_test(name: &str) -> bool
-    ensures { result ≡ Operators.is_later_test name.now }
-{
-    name == "EQ"
-        || name == "EQL"
-        || name == "EQUAL"
-        || name == "NOT"
-        || name == "NULL"
-        || name == "SYMBOLP"
-        || name == "INTEGERP"
-        || name == "STRINGP"
-}
-
-/// Whether this is a function of printing or of threads that is not built yet.
-fn is_later_thread(name: &str) -> bool
-    ensures { result ≡ Operators.is_later_thread name.now }
-{
-    name == "PRIN1"
-        || name == "PRINC"
-        || name == "TERPRI"
-        || name == "FORMAT"
-        || name == "MAKE-THREAD"
-        || name == "JOIN-THREAD"
-        || name == "INTERRUPT-THREAD"
-        || name == "THREAD-ALIVE-P"
-        || name == "MAIN-THREAD"
-        || name == "THREAD-YIELD"
-}
-
-/// Whether this is a function of mutexes, waitqueues or timers that is not built yet.
-fn is_later_object(name: &str) -> bool
-    ensures { result ≡ Operators.is_later_object name.now }
-{
-    name == "MAKE-MUTEX"
-        || name == "MAKE-WAITQUEUE"
-        || name == "GRAB-MUTEX"
-        || name == "RELEASE-MUTEX"
-        || name == "MUTEX-OWNER"
-        || name == "HOLDING-MUTEX-P"
-        || name == "CONDITION-WAIT"
-        || name == "CONDITION-NOTIFY"
-        || name == "CONDITION-BROADCAST"
-        || name == "SLEEP"
-        || name == "MAKE-TIMER"
-        || name == "SCHEDULE-TIMER"
-        || name == "UNSCHEDULE-TIMER"
-}
-
-/// Whether this is any other operator or function that is not built yet.
-fn is_later(name: &str) -> bool
-    ensures { result ≡ Operators.is_later name.now }
-{
-    is_later_control(name)
-        || is_later_region(name)
-        || is_later_derived(name)
-        || is_later_loop(name)
-        || is_later_number(name)
-        || is_later_order(name)
-        || is_later_test(name)
-        || is_later_thread(name)
-        || is_later_object(name)
-}
-
-/// The operator with this name that is told apart from others.
-fn told_operator(name: &str) -> Option<Operator>
-    ensures { result ≡ Operators.told_operator name.now }
+/// What a name means, among the operators of values, variables and sequences.
+fn basic_named(name: &str) -> Option<Operator>
+    ensures { result ≡ Operators.basic_named name.now }
 {
     if name == "QUOTE" {
         return Some(Operator::Quote);
     }
+    if name == "FUNCTION" {
+        return Some(Operator::Function);
+    }
+    if name == "LAMBDA" {
+        return Some(Operator::Lambda);
+    }
     if name == "PROGN" {
         return Some(Operator::Progn);
     }
-    if name == "SETQ" {
-        return Some(Operator::Setq);
+    if name == "IF" {
+        return Some(Operator::If);
     }
     if name == "LET" {
         return Some(Operator::Let);
     }
-    if name == "+" {
-        return Some(Operator::Plus);
+    if name == "LET*" {
+        return Some(Operator::LetStar);
     }
-    if name == "*" {
-        return Some(Operator::Times);
+    if name == "SETQ" {
+        return Some(Operator::Setq);
     }
-    if name == "PRINT" {
-        return Some(Operator::Print);
+    if name == "SETF" {
+        return Some(Operator::Setq);
     }
+    if name == "COMPARE-AND-SWAP" {
+        return Some(Operator::CompareAndSwap);
+    }
+    if name == "DECLARE" {
+        return Some(Operator::Declare);
+    }
+    None
+}
+
+/// What a name means, among the operators of blocks, catches, cleanups and handlers.
+fn control_named(name: &str) -> Option<Operator>
+    ensures { result ≡ Operators.control_named name.now }
+{
+    if name == "BLOCK" {
+        return Some(Operator::Block);
+    }
+    if name == "RETURN-FROM" {
+        return Some(Operator::ReturnFrom);
+    }
+    if name == "RETURN" {
+        return Some(Operator::Return);
+    }
+    if name == "CATCH" {
+        return Some(Operator::Catch);
+    }
+    if name == "THROW" {
+        return Some(Operator::Throw);
+    }
+    if name == "UNWIND-PROTECT" {
+        return Some(Operator::UnwindProtect);
+    }
+    if name == "HANDLER-CASE" {
+        return Some(Operator::HandlerCase);
+    }
+    if name == "IGNORE-ERRORS" {
+        return Some(Operator::IgnoreErrors);
+    }
+    if name == "ERROR" {
+        return Some(Operator::Error);
+    }
+    None
+}
+
+/// What a name means, among the operators of regions, times, mutexes and ends of threads.
+fn region_named(name: &str) -> Option<Operator>
+    ensures { result ≡ Operators.region_named name.now }
+{
+    if name == "WITHOUT-INTERRUPTS" {
+        return Some(Operator::WithoutInterrupts);
+    }
+    if name == "ALLOW-WITH-INTERRUPTS" {
+        return Some(Operator::AllowWithInterrupts);
+    }
+    if name == "WITH-INTERRUPTS" {
+        return Some(Operator::WithInterrupts);
+    }
+    if name == "WITH-LOCAL-INTERRUPTS" {
+        return Some(Operator::WithLocalInterrupts);
+    }
+    if name == "WITH-DEADLINE" {
+        return Some(Operator::WithDeadline);
+    }
+    if name == "WITH-TIMEOUT" {
+        return Some(Operator::WithTimeout);
+    }
+    if name == "WITH-MUTEX" {
+        return Some(Operator::WithMutex);
+    }
+    if name == "WITH-RECURSIVE-LOCK" {
+        return Some(Operator::WithRecursiveLock);
+    }
+    if name == "ABORT-THREAD" {
+        return Some(Operator::AbortThread);
+    }
+    if name == "RETURN-FROM-THREAD" {
+        return Some(Operator::ReturnFromThread);
+    }
+    if name == "TERMINATE-THREAD" {
+        return Some(Operator::TerminateThread);
+    }
+    None
+}
+
+/// What a name means, among the operators of choices and loops.
+fn choice_named(name: &str) -> Option<Operator>
+    ensures { result ≡ Operators.choice_named name.now }
+{
+    if name == "WHEN" {
+        return Some(Operator::When);
+    }
+    if name == "UNLESS" {
+        return Some(Operator::Unless);
+    }
+    if name == "COND" {
+        return Some(Operator::Cond);
+    }
+    if name == "AND" {
+        return Some(Operator::And);
+    }
+    if name == "OR" {
+        return Some(Operator::Or);
+    }
+    if name == "PROG1" {
+        return Some(Operator::Prog1);
+    }
+    if name == "INCF" {
+        return Some(Operator::Incf);
+    }
+    if name == "DECF" {
+        return Some(Operator::Decf);
+    }
+    if name == "LOOP" {
+        return Some(Operator::Loop);
+    }
+    if name == "DOTIMES" {
+        return Some(Operator::Dotimes);
+    }
+    None
+}
+
+/// What a name means, among the operators of the top level.
+fn top_named(name: &str) -> Option<Operator>
+    ensures { result ≡ Operators.top_named name.now }
+{
     if name == "DEFVAR" {
         return Some(Operator::Defvar);
     }
     if name == "DEFPARAMETER" {
         return Some(Operator::Defparameter);
     }
+    if name == "DEFUN" {
+        return Some(Operator::Defun);
+    }
+    if name == "IN-PACKAGE" {
+        return Some(Operator::Ignored);
+    }
+    if name == "DECLAIM" {
+        return Some(Operator::Ignored);
+    }
+    if name == "USE-PACKAGE" {
+        return Some(Operator::Ignored);
+    }
     None
 }
 
-/// The operator or function with this name.
-pub fn operator_named(name: &str) -> Option<Operator>
-    ensures { result ≡ Operators.operator_named name.now }
+/// The operator with this name.
+pub fn operator_only(name: &str) -> Option<Operator>
+    ensures { result ≡ Operators.operator_only name.now }
 {
-    if let Some(operator) = told_operator(name) {
+    if let Some(operator) = basic_named(name) {
         return Some(operator);
     }
-    if is_ignored(name) {
-        return Some(Operator::Ignored);
+    if let Some(operator) = control_named(name) {
+        return Some(operator);
     }
-    if name == "DEFUN" {
-        return Some(Operator::LaterTop);
+    if let Some(operator) = region_named(name) {
+        return Some(operator);
     }
-    if is_later(name) {
-        return Some(Operator::Later);
+    if let Some(operator) = choice_named(name) {
+        return Some(operator);
     }
-    None
+    top_named(name)
 }
 
 /// Whether this names a symbol that stands for itself: NIL, T or a keyword.

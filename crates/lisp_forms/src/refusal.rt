@@ -4,9 +4,6 @@ ghost use Rattle.lisp_forms.specs.declared.refusal.ExpandRefusal.TheVariants.{Me
 use lisp_base::id::Place;
 use lisp_base::memory;
 
-/// A form that is not built yet.
-pub const NOT_BUILT: u32 = 10;
-
 /// The head of a list is no operator and no function.
 pub const UNKNOWN_OPERATOR: u32 = 11;
 
@@ -15,6 +12,15 @@ pub const BAD_FORM: u32 = 12;
 
 /// A symbol is no variable.
 pub const UNKNOWN_VARIABLE: u32 = 13;
+
+/// A function stands outside a function's place, or another form in one.
+pub const FUNCTION_PLACE: u32 = 14;
+
+/// A region stands outside the region that it needs round it.
+pub const REGION_OUTSIDE: u32 = 15;
+
+/// An exit has no block round it.
+pub const NO_SUCH_BLOCK: u32 = 16;
 
 /// There are more arguments, variables or definitions than there may be.
 pub const TOO_MANY: u32 = 17;

@@ -1,198 +1,109 @@
-ghost use Rattle.std.specs.Prelude.{◌≡◌, IfOk};
-ghost use Rattle.lisp_forms.specs.Contexts.{scope_in};
+ghost use Rattle.std.specs.Prelude.{◌≡◌};
 ghost use Rattle.lisp_forms.specs.Shapes;
 
-use crate::context::{Context, constant, first_symbol, has, is_variable_name, quoted_leaf};
 use crate::expanded::Expanded;
-use crate::operator::Operator;
-use crate::refusal::{BAD_FORM, NOT_BUILT, TOO_MANY, UNKNOWN_OPERATOR, UNKNOWN_VARIABLE};
-use crate::variables::{variables_fault, variables_of};
+use crate::keywords::Roles;
+use crate::refusal::BAD_FORM;
+use crate::scope::Target;
 use lisp_base::id::{Place, SymbolId};
-use lisp_base::memory::Memory;
-use lisp_base::value::{Node, Value};
 use lisp_program::form::CoreKind;
-use lisp_reader::items::{First, Items};
-use std::alloc::Global;
-
-/// The most arguments or variables of one form.
-pub const MOST: u32 = 64;
+use lisp_program::function::Primitive;
+use lisp_reader::items::Items;
 
 /// What a list is.
 #[derive(Clone, Copy, Debug, PartialEq, Eq)]
 pub enum Shape {
     /// It is refused with this number at this place.
     Wrong(u32, Place),
-    /// A form with nothing under it.
+    /// Nothing stands under it.
     Leaf(Expanded),
-    /// A form with all its arguments under it.
-    Call(CoreKind),
-    /// A sum of its arguments.
-    Sum,
-    /// A form with what stands behind its first argument under it.
-    Setting(CoreKind),
-    /// A `let`.
-    Binding,
+    /// A form of this kind with its arguments under it, by what they are for.
+    Over(CoreKind, Roles),
+    /// The same with NIL behind them.
+    OverNil(CoreKind, Roles),
+    When,
+    Unless,
+    Cond,
+    And,
+    Or,
+    Prog1,
+    /// `setq` of one variable or more.
+    Setq,
+    /// `incf` or `decf` of this variable, by this function.
+    Change(Target, Primitive),
+    /// A function of two that is folded over the arguments.
+    Fold(Primitive),
+    /// A function of two, of one argument twice.
+    Twice(Primitive),
+    Let,
+    LetStar,
+    /// A form of this kind with a body under it.
+    Body(CoreKind),
+    /// `with-local-interrupts`, in the `without-interrupts` with this number.
+    LocalInterrupts(u32),
+    /// `without-interrupts`.
+    Without,
+    /// A block with this name.
+    Block(SymbolId),
+    Catch,
+    Loop,
+    /// `dotimes` with this variable.
+    Dotimes(SymbolId),
+    IgnoreErrors,
+    /// `handler-case`.
+    Handler,
+    /// `with-deadline`, with what is written.
+    Deadline { seconds: bool, replaces: bool },
+    /// `with-mutex`, with what is written.
+    Mutex { waitp: bool, timeout: bool },
+    /// `with-recursive-lock`.
+    RecursiveLock,
+    /// `with-timeout`.
+    Timeout,
+    /// `terminate-thread`.
+    Terminate,
+    /// A `defun` of this function, at top level.
+    Defun(SymbolId),
 }
 
-/// A list that is refused.
-pub fn wrong(number: u32, place: Place) -> Shape
-    ensures { result ≡ Shape.Wrong number place }
+/// A list that does not have its shape.
+pub fn bad(place: Place) -> Shape
+    ensures { result ≡ Shapes.bad place }
 {
-    Shape::Wrong(number, place)
+    Shape::Wrong(BAD_FORM, place)
 }
 
-/// A list of so many items that is quoted.
-fn quoted_list(count: u32) -> Expanded
-    ensures { result ≡ Shapes.quoted_list count }
+/// A list that may have its shape: where it does not hold, it is bad.
+pub fn where_holds(place: Place, holds: bool, shape: Shape) -> Shape
+    ensures { result ≡ Shapes.where_holds place holds shape }
 {
-    if count == 0 {
-        Expanded::Form(CoreKind::Constant(Value::nil()))
-    } else {
-        Expanded::Refused(BAD_FORM)
-    }
+    if holds { shape } else { bad(place) }
 }
 
-/// What is quoted.
-fn quoted(arguments: &Items) -> Expanded
-    ensures { result ≡ Shapes.quoted arguments.now }
+/// A form of this kind with exactly so many arguments.
+pub fn fixed(place: Place, kind: CoreKind, wanted: u32, arguments: &Items) -> Shape
+    ensures { result ≡ Shapes.fixed place kind wanted arguments.now }
 {
-    let Some((first, others)) = arguments.split_first() else {
-        return Expanded::Refused(BAD_FORM);
-    };
-    if others.count() > 0 {
-        return Expanded::Refused(BAD_FORM);
-    }
-    match first {
-        First::Leaf(leaf, _) => quoted_leaf(leaf),
-        First::List(_, under) => quoted_list(under.count()),
-    }
+    where_holds(
+        place,
+        arguments.count() == wanted,
+        Shape::Over(kind, Roles::From(0)),
+    )
 }
 
-/// The place of the first of these.
-fn first_place(items: &Items) -> Place
-    ensures { result ≡ Shapes.first_place items.now }
+/// A form with at least so many arguments.
+pub fn at_least(place: Place, wanted: u32, arguments: &Items, shape: Shape) -> Shape
+    ensures { result ≡ Shapes.at_least place wanted arguments.now shape }
 {
-    let Some((first, _)) = items.split_first() else {
-        return Place(0);
-    };
-    match first {
-        First::Leaf(_, place) => place,
-        First::List(place, _) => place,
-    }
+    where_holds(place, arguments.count() >= wanted, shape)
 }
 
-/// `setq` of one variable, which stands at `at`.
-fn setting(context: &Context, place: Place, variable: Option<SymbolId>, at: Place) -> Shape
-    ensures { result ≡ Shapes.setting (scope_in context.now) place variable at }
+/// A list whose variables have this fault or none.
+pub fn faultless(place: Place, fault: Option<u32>, shape: Shape) -> Shape
+    ensures { result ≡ Shapes.faultless place fault shape }
 {
-    let Some(symbol) = variable else {
-        return Shape::Wrong(BAD_FORM, place);
-    };
-    if !is_variable_name(context.symbols, symbol) {
-        return Shape::Wrong(BAD_FORM, place);
-    }
-    if has(context.specials, symbol) {
-        return Shape::Setting(CoreKind::Setq(symbol));
-    }
-    Shape::Wrong(UNKNOWN_VARIABLE, at)
-}
-
-/// Whether a number is odd.
-fn is_odd(number: u32) -> bool
-    ensures { result ≡ Shapes.is_odd number }
-{
-    number % 2 == 1
-}
-
-/// `setq` with these arguments.
-fn setq_shape(context: &Context, place: Place, arguments: &Items) -> Shape
-    ensures { result ≡ Shapes.setq_shape (scope_in context.now) place arguments.now }
-{
-    let count = arguments.count();
-    if count == 2 {
-        return setting(
-            context,
-            place,
-            first_symbol(arguments),
-            first_place(arguments),
-        );
-    }
-    if count == 0 || is_odd(count) {
-        return Shape::Wrong(BAD_FORM, place);
-    }
-    Shape::Wrong(NOT_BUILT, place)
-}
-
-/// `let` with these arguments.
-fn let_shape(
-    alloc: Global,
-    context: &Context,
-    place: Place,
-    arguments: &Items,
-) -> Result<Shape, Memory>
-    ensures { IfOk result (λ shape. shape ≡ Shapes.binding (scope_in context.now) place (Shapes.variables_of arguments.now)) }
-{
-    match variables_of(alloc, arguments)? {
-        None => Ok(Shape::Wrong(BAD_FORM, place)),
-        Some(variables) => match variables_fault(context, variables.as_slice()) {
-            Some(number) => Ok(Shape::Wrong(number, place)),
-            None => Ok(Shape::Binding),
-        },
-    }
-}
-
-/// A sum of these arguments.
-fn sum_shape(place: Place, arguments: &Items) -> Shape
-    ensures { result ≡ Shapes.sum_shape place arguments.now }
-{
-    if arguments.count() > MOST {
-        return Shape::Wrong(TOO_MANY, place);
-    }
-    if arguments.count() == 0 {
-        return Shape::Leaf(constant(Node::Int(0)));
-    }
-    Shape::Sum
-}
-
-/// A product of these arguments.
-fn product_shape(place: Place, arguments: &Items) -> Shape
-    ensures { result ≡ Shapes.product_shape place arguments.now }
-{
-    if arguments.count() > MOST {
-        return Shape::Wrong(TOO_MANY, place);
-    }
-    if arguments.count() == 0 {
-        return Shape::Leaf(constant(Node::Int(1)));
-    }
-    Shape::Wrong(NOT_BUILT, place)
-}
-
-/// What a list with this operator and these arguments is.
-pub fn shape_led(
-    alloc: Global,
-    context: &Context,
-    place: Place,
-    operator: Option<Operator>,
-    arguments: &Items,
-) -> Result<Shape, Memory>
-    ensures { IfOk result (λ shape. shape ≡ Shapes.shape_led (scope_in context.now) place operator arguments.now) }
-{
-    let Some(operator) = operator else {
-        return Ok(Shape::Wrong(UNKNOWN_OPERATOR, place));
-    };
-    match operator {
-        Operator::Quote => Ok(Shape::Leaf(quoted(arguments))),
-        Operator::Progn => Ok(Shape::Call(CoreKind::Progn)),
-        Operator::Setq => Ok(setq_shape(context, place, arguments)),
-        Operator::Let => let_shape(alloc, context, place, arguments),
-        Operator::Plus => Ok(sum_shape(place, arguments)),
-        Operator::Times => Ok(product_shape(place, arguments)),
-        Operator::Print if arguments.count() == 1 => Ok(Shape::Call(CoreKind::Print)),
-        Operator::Print
-        | Operator::Defvar
-        | Operator::Defparameter
-        | Operator::Ignored
-        | Operator::LaterTop => Ok(Shape::Wrong(BAD_FORM, place)),
-        Operator::Later => Ok(Shape::Wrong(NOT_BUILT, place)),
+    match fault {
+        None => shape,
+        Some(number) => Shape::Wrong(number, place),
     }
 }

@@ -1,35 +1,98 @@
-use lisp_base::id::SymbolId;
+use crate::function::{Primitive, Printing, Service};
+use lisp_base::condition::Condition;
+use lisp_base::id::{FunctionName, SymbolId};
 use lisp_base::value::Value;
 
-/// A local point that only changes the values at hand.
+/// A local point that opens no frame. Operands are the values at hand, the last one in front.
 #[derive(Clone, Copy, Debug, PartialEq, Eq)]
 pub enum Act {
-    /// Puts a value in front of the others.
+    /// Gives a constant.
     Push(Value),
-    /// Takes the front value away.
+    /// Gives a function, to the form in whose function's place it stands.
+    PushFunction(FunctionName),
+    /// Gives the present thread.
+    PushThread,
+    /// Gives the lexical variable with this number.
+    ReadLocal(u32),
+    /// Writes the front operand to the lexical variable with this number, and leaves it.
+    WriteLocal(u32),
+    /// Binds the lexical variable with this number to the operand that has so many others in front, which it takes away.
+    BindLocal(u32, u32),
+    /// Forgets the lexical variable that was bound last.
+    ForgetLocal,
+    /// Takes the front operand away.
     Discard,
-    /// Puts the sum in place of the two front values.
-    Add,
+    /// Takes the operands of a function, and gives its value.
+    Apply(Primitive),
+    /// Takes so many operands as the arguments of a function of the program, whose body comes next in a Call frame.
+    Call(SymbolId, u32),
+    /// Takes a value, and leaves to the Block frame whose entry has this number.
+    ReturnFrom(u32),
+    /// Takes a tag and a value, and leaves to the Catch frame with that tag.
+    Throw,
+    /// Signals a condition.
+    Signal(Condition),
+    /// Leaves to the thread's base, which is aborted.
+    AbortThread,
+    /// Takes a value, and leaves to the thread's base, which returns it.
+    ReturnFromThread,
 }
 
-/// A point that opens a frame.
+/// A point that opens a frame. All but a binding give their body no operand.
 #[derive(Clone, Copy, Debug, PartialEq, Eq)]
 pub enum Opening {
-    /// Binds a special variable to the value that has so many others in front.
+    /// Binds a special variable to the operand that has so many others in front, which it takes away.
     Bind(SymbolId, u32),
+    /// A block, whose entry has this number.
+    Block(u32),
+    /// Takes a tag.
+    Catch,
+    /// Remembers whether interruptions were allowed, under this number, and allows none.
+    WithoutInterrupts(u32),
+    /// Allows interruptions where they were allowed as remembered under this number.
+    AllowWithInterrupts(u32),
+    /// Enables interruptions where they are allowed.
+    WithInterrupts,
+    /// Takes the seconds and the override that are written, and sets the deadline.
+    Deadline { seconds: bool, replaces: bool },
 }
 
 /// A point that is an operation on shared objects, or may be one.
 #[derive(Clone, Copy, Debug, PartialEq, Eq)]
 pub enum Question {
-    /// Prints the front value, and gives it.
-    Print,
+    /// Takes what it prints, and gives what the function gives.
+    Print(Printing),
     /// Reads a special variable: its binding in this thread, else the global value.
     Read(SymbolId),
-    /// Writes the front value to a special variable, in its binding in this thread, else globally, and gives it.
+    /// Writes the front operand to a special variable, in its binding in this thread, else globally, and leaves it.
     Write(SymbolId),
-    /// Writes the front value to a special variable globally, and gives its symbol.
+    /// Whether a special variable has a global value.
+    IsBound(SymbolId),
+    /// Takes a value, writes it to a special variable globally, and gives its symbol.
     Define(SymbolId),
-    /// Ends the thread with the front value.
+    /// Takes two values, writes the second where the variable is `eq` to the first, and gives what the variable was.
+    CompareAndSwap(SymbolId),
+    /// The first point of a service takes its operands, and its last gives its value.
+    Serve(Service, Step),
+    /// Takes a value, with which the thread ends.
     EndThread,
+}
+
+/// One of the operations that a service is made of. A timeout of NIL is as if it were not written: `Clock` is no point then,
+/// and `Try` is as `Main` and settles what is wanted.
+#[derive(Clone, Copy, Debug, PartialEq, Eq)]
+pub enum Step {
+    /// The clock's reading, from which a time counts.
+    Clock,
+    /// The operation for which the service is named. That of a `grab-mutex` whose `:waitp` is NIL is a try.
+    Main,
+    /// `try` or `poll`, which does not wait. It settles what is wanted where the mutex was free or the thread has ended, and where
+    /// `:waitp` is NIL.
+    Try,
+    /// `wait-begin`: waits in a waitqueue, with the mutex free.
+    Begin,
+    /// `wake`: waits to be notified. A timeout settles what is wanted.
+    Wake,
+    /// `regrab`: waits for the mutex.
+    Regrab,
 }

@@ -1,4 +1,5 @@
 pub mod Sized
+pub mod Skipped
 pub mod Cased
 pub mod Characters
 pub mod Cut

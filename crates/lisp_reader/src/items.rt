@@ -1,5 +1,5 @@
 ghost use Rattle.std.specs.Prelude.{◌≡◌, ◌<◌, ◌^◌, length, IfNone, IfSome};
-ghost use Rattle.lisp_reader.specs.Data.{NoData, count_of, written};
+ghost use Rattle.lisp_reader.specs.Data.{NoData, behind, count_of, written};
 ghost use Rattle.lisp_reader.specs.First.{with_first};
 
 use crate::datum::{Datum, DatumKind, DatumNode, Leaf};
@@ -89,5 +89,22 @@ impl<'a> Items<'a> {
             DatumKind::Time(time) => First::Leaf(Leaf::Time(time), node.place),
         };
         Some((first, others))
+    }
+
+    /// Those behind the first so many.
+    pub fn skip(&self, number: u32) -> Items<'a>
+        ensures { result ≡ behind number self.now }
+    {
+        let mut left = Items {
+            nodes: self.nodes,
+            count: self.count,
+        };
+        for _skipped in 0..number {
+            match left.split_first() {
+                None => return left,
+                Some((_, others)) => left = others,
+            }
+        }
+        left
     }
 }

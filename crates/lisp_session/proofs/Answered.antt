@@ -1,6 +1,6 @@
 -- The text of a run, and what was read for it.
 use Rattle.std.proofs.Common.{◌≡◌, ℕ, inl, inr, List, [], ◌∷◌, ◌++◌, Bool, true, false, cond, refl, ap, sym, subst, ◌∙◌}
-use Rattle.lisp_program.specs.Program.{Program}
+use Rattle.plain_program.specs.Program.{PlainProgram}
 use Rattle.world_semantics.specs.declared.entry.Entry.{Entry}
 use Rattle.thread_semantics.specs.State.{ThreadState}
 use Rattle.run_semantics.specs.declared.report.Report.{Report}
@@ -22,7 +22,7 @@ run_status (s ∷ ss) = by_end (has_ended s.control) (status_of ss) (run_status 
     by_end false n h = inr refl
 
 -- journal and report of a run are its text
-pub run_written : (bytes text : List ℕ) (tables : Tables) (program : Program) (journal : List Entry) (report : Report) → RunsAs steps program journal report
+pub run_written : (bytes text : List ℕ) (tables : Tables) (program : PlainProgram) (journal : List Entry) (report : Report) → RunsAs steps program journal report
     → text ≡ journal_text tables.symbols tables.literals journal ++ report_text tables.symbols tables.literals report → Reads bytes tables program → IsRunText bytes text report.status × IsRunStatus report.status
 run_written bytes text tables program journal report r e reads =
     let which : report.status ≡ status_of r.last.threads = ap (λ (x : Report). x.status) r.reported in (

@@ -1,26 +1,35 @@
 -- Bytes are one program, or are refused with one number at one place.
-use Rattle.std.proofs.Common.{◌≡◌, ℕ, inl, inr, ◌⊎◌, List, [], Option, Some, None, refl, ap, subst, sym, ◌∙◌}
+use Rattle.std.proofs.Common.{◌≡◌, ℕ, inl, inr, ◌⊎◌, List, Option, Some, None, refl, ap, subst, sym, ◌∙◌}
 use Rattle.lisp_program.specs.Program.{Program}
 use Rattle.lisp_reader.specs.Data.{Data}
-use Rattle.lisp_reader.specs.Reading.{IsReadable, IsRefusable, NeverBoth as NeverBothText, OneReading, OneRefusal as OneRefusalOfText, ReadOrRefused}
+use Rattle.lisp_reader.specs.Reading.{IsReadable, IsRefusable, NeverBoth as NeverBothText, OneReading, OneRefusal as OneRefusalOfText, ReadOrRefused, Reads as ReadsData}
 use Rattle.lisp_reader.specs.Tables.{Tables}
-use Rattle.lisp_forms.specs.Program.{Expands, IsRefused as IsRefusedForms, core_forms, expansion_of, first_refusal, variables_from}
-use Rattle.lisp_forms.specs.declared.expander.Refusal.{Refusal}
-use Rattle.lisp_session.specs.Programs.{IsNoProgram, IsProgram, IsRefused, NeverBoth, OneProgram, OneRefusal, ProgramOrRefused, Reads, as_data, as_text, first_tables}
+use Rattle.lisp_forms.specs.Program.{Expands, IsRefused as IsRefusedData}
+use Rattle.plain_program.specs.Plain.{first_unbuilt, plain_program}
+use Rattle.lisp_session.specs.Programs.{IsNoProgram, IsProgram, NeverBoth, OneProgram, OneRefusal, ProgramOrRefused, as_data, as_text, as_unbuilt, first_tables, not_built}
+use Rattle.lisp_session.proofs.Wholes.{IsNoWhole, IsWhole, not_refused, once_refused, one_whole, whole_or_refused}
 
--- what is read is a program, or something in it is refused
-read_told : (bytes : List ℕ) → IsReadable bytes first_tables → IsProgram bytes ⊎ IsNoProgram bytes
-read_told bytes r = by (first_refusal None (expansion_of r.after.symbols r.read)) refl
+-- a whole program is a program, or a form of it is not run yet
+whole_told : (bytes : List ℕ) (r : IsReadable bytes first_tables) → IsWhole r.after.symbols r.after.literals r.read → IsProgram bytes ⊎ IsNoProgram bytes
+whole_told bytes r w = by (first_unbuilt w.whole.forms) refl
   where
-    by : (found : Option Refusal) → first_refusal None (expansion_of r.after.symbols r.read) ≡ found → IsProgram bytes ⊎ IsNoProgram bytes
+    by : (found : Option ℕ) → first_unbuilt w.whole.forms ≡ found → IsProgram bytes ⊎ IsNoProgram bytes
     by None e =
         inl
         (record {
           tables = r.after;
-          program = record { forms = core_forms (expansion_of r.after.symbols r.read); specials = variables_from r.after.symbols [] r.read };
-          reads = record { read = r.read; reads = r.reads; expands = record { accepted = e; forms = refl; specials = refl } };
+          program = plain_program w.whole;
+          reads = record { read = r.read; reads = r.reads; whole = w.whole; expands = w.expands; built = e; is = refl };
         })
-    by (Some f) e = inr (record { number = f.number; place = f.place; refused = as_data r.after r.read r.reads e })
+    by (Some place) e = inr (record { number = not_built; place = place; refused = as_unbuilt r.after r.read w.whole r.reads w.expands e refl })
+
+-- what is read is a program, or something in it is refused
+read_told : (bytes : List ℕ) → IsReadable bytes first_tables → IsProgram bytes ⊎ IsNoProgram bytes
+read_told bytes r = by (whole_or_refused r.after.symbols r.after.literals r.read)
+  where
+    by : IsWhole r.after.symbols r.after.literals r.read ⊎ IsNoWhole r.after.symbols r.after.literals r.read → IsProgram bytes ⊎ IsNoProgram bytes
+    by (inl w) = whole_told bytes r w
+    by (inr n) = inr (record { number = n.number; place = n.place; refused = as_data r.after r.read r.reads n.refused })
 
 -- all bytes are a program or are refused
 pub program_or_refused : ReadOrRefused → ProgramOrRefused
@@ -30,56 +39,69 @@ program_or_refused told bytes = by (told bytes first_tables)
     by (inl r) = read_told bytes r
     by (inr r) = inr (record { number = r.number; place = r.place; refused = as_text r.after r.refused })
 
--- the same data are the same program
-same_program : (names : List (List ℕ)) (d : List Data) (p q : Program) → Expands names d p → Expands names d q → p ≡ q
-same_program names d p q e f =
-    ap (λ x. record { forms = x; specials = p.specials }) (e.forms ∙ sym f.forms)
-    ∙ ap (λ x. record { forms = q.forms; specials = x }) (e.specials ∙ sym f.specials)
+-- what holds of one reading of these bytes holds of the other
+same_read : OneReading → (bytes : List ℕ) (t u : Tables) (d e : List Data) (P : Tables → List Data → Type 0) → ReadsData bytes first_tables t d
+    → ReadsData bytes first_tables u e → P u e → P t d
+same_read one bytes t u d e P r s h =
+    let same = one bytes first_tables t u d e r s in subst (λ x. P t x) (sym same.1) (subst (λ (x : Tables). P x e) (sym same.0) h)
+
+-- the same bytes stand for the same whole program
+same_whole : OneReading → (bytes : List ℕ) (t u : Tables) (d e : List Data) (p q : Program) → ReadsData bytes first_tables t d
+    → ReadsData bytes first_tables u e → Expands t.symbols t.literals d p → Expands u.symbols u.literals e q → p ≡ q
+same_whole one bytes t u d e p q r s x y =
+    one_whole t.symbols t.literals d p q x (same_read one bytes t u d e (λ (v : Tables) f. Expands v.symbols v.literals f q) r s y)
+
+-- bytes that stand for a whole program are not refused as data
+whole_not_refused : OneReading → (bytes : List ℕ) (t u : Tables) (d e : List Data) (p : Program) (number place : ℕ) → ReadsData bytes first_tables t d
+    → ReadsData bytes first_tables u e → Expands t.symbols t.literals d p → IsRefusedData u.symbols u.literals e number place → ⊥
+whole_not_refused one bytes t u d e p number place r s x found =
+    not_refused t.symbols t.literals d p number place x
+    (same_read one bytes t u d e (λ (v : Tables) f. IsRefusedData v.symbols v.literals f number place) r s found)
 
 -- bytes are at most one program
 pub one_program : OneReading → OneProgram
 one_program one bytes t u p q r s =
     let same = one bytes first_tables t u r.read s.read r.reads s.reads in
-    let expands : Expands t.symbols r.read q =
-    subst (λ d. Expands t.symbols d q) (sym same.1) (subst (λ (x : Tables). Expands x.symbols s.read q) (sym same.0) s.expands) in
-    (same.0, same_program t.symbols r.read p q r.expands expands)
+    let whole : r.whole ≡ s.whole = same_whole one bytes t u r.read s.read r.whole s.whole r.reads s.reads r.expands s.expands in
+    (same.0, r.is ∙ ap plain_program whole ∙ sym s.is)
 
--- the number of a refusal
-number_of : Option Refusal → ℕ
-number_of None = 0
-number_of (Some f) = f.number
+-- the place that is found
+place_in : Option ℕ → ℕ
+place_in None = 0
+place_in (Some p) = p
 
--- its place
-place_of : Option Refusal → ℕ
-place_of None = 0
-place_of (Some f) = f.place
-
--- one thing that is found has one number and place
-found_once : (found : Option Refusal) (m n p q : ℕ) → found ≡ Some (record { number = m; place = p }) → found ≡ Some (record { number = n; place = q })
-    → (m ≡ n) × (p ≡ q)
-unfolding number_of place_of
-found_once found m n p q e f = (sym (ap number_of e) ∙ ap number_of f, sym (ap place_of e) ∙ ap place_of f)
+-- one thing that is found has one place
+place_once : (found : Option ℕ) (p q : ℕ) → found ≡ Some p → found ≡ Some q → p ≡ q
+unfolding place_in
+place_once found p q e f = sym (ap place_in e) ∙ ap place_in f
 
 -- what is found is not nothing
-found_some : (found : Option Refusal) (f : Refusal) → found ≡ None → found ≡ Some f → ⊥
-found_some found f e h = let none : None ≡ Some f = sym e ∙ h in cc
+place_some : (found : Option ℕ) (p : ℕ) → found ≡ None → found ≡ Some p → ⊥
+place_some found p e h = let none : None ≡ Some p = sym e ∙ h in cc
 
 -- bytes are refused with one number at one place
 pub one_refusal : OneReading → OneRefusalOfText → NeverBothText → OneRefusal
 one_refusal one only never bytes m n p q (as_text t a) (as_text u b) = let same = only bytes first_tables t u m n p q a b in (same.0, same.1)
 one_refusal one only never bytes m n p q (as_text t a) (as_data u d r b) = absurd (never bytes first_tables u t d m p r a)
+one_refusal one only never bytes m n p q (as_text t a) (as_unbuilt u d w r x b e) = absurd (never bytes first_tables u t d m p r a)
 one_refusal one only never bytes m n p q (as_data t d r a) (as_text u b) = absurd (never bytes first_tables t u d n q r b)
+one_refusal one only never bytes m n p q (as_unbuilt t d w r x a e) (as_text u b) = absurd (never bytes first_tables t u d n q r b)
 one_refusal one only never bytes m n p q (as_data t d r a) (as_data u e s b) =
-    let same = one bytes first_tables t u d e r s in
-    let b' : IsRefusedForms t.symbols d n q =
-    subst (λ x. IsRefusedForms t.symbols x n q) (sym same.1) (subst (λ (x : Tables). IsRefusedForms x.symbols e n q) (sym same.0) b) in
-    found_once _ m n p q a b'
+    once_refused t.symbols t.literals d m n p q a
+    (same_read one bytes t u d e (λ (v : Tables) f. IsRefusedData v.symbols v.literals f n q) r s b)
+one_refusal one only never bytes m n p q (as_data t d r a) (as_unbuilt u e w s x b k) =
+    absurd (whole_not_refused one bytes u t e d w m p s r x a)
+one_refusal one only never bytes m n p q (as_unbuilt t d w r x a k) (as_data u e s b) =
+    absurd (whole_not_refused one bytes t u d e w n q r s x b)
+one_refusal one only never bytes m n p q (as_unbuilt t d v r x a k) (as_unbuilt u e w s y b l) =
+    let whole : v ≡ w = same_whole one bytes t u d e v w r s x y in
+    (k ∙ sym l, place_once (first_unbuilt v.forms) p q a (ap (λ (z : Program). first_unbuilt z.forms) whole ∙ b))
 
 -- no bytes are both a program and refused
 pub never_both : OneReading → NeverBothText → NeverBoth
 never_both one never bytes tables program number place r (as_text t refused) = never bytes first_tables tables t r.read number place r.reads refused
 never_both one never bytes tables program number place r (as_data t d s found) =
-    let same = one bytes first_tables tables t r.read d r.reads s in
-    let found' : IsRefusedForms tables.symbols r.read number place =
-    subst (λ x. IsRefusedForms tables.symbols x number place) (sym same.1) (subst (λ (x : Tables). IsRefusedForms x.symbols d number place) (sym same.0) found) in
-    found_some _ (record { number = number; place = place }) r.expands.accepted found'
+    whole_not_refused one bytes tables t r.read d r.whole number place r.reads s r.expands found
+never_both one never bytes tables program number place r (as_unbuilt t d w s x found e) =
+    let whole : r.whole ≡ w = same_whole one bytes tables t r.read d r.whole w r.reads s r.expands x in
+    place_some (first_unbuilt r.whole.forms) place r.built (ap (λ (z : Program). first_unbuilt z.forms) whole ∙ found)

@@ -3,10 +3,7 @@ use Rattle.std.proofs.Common.{◌≡◌, ℕ, ◌<◌, ◌≤◌, inl, inr, List
 use Rattle.std.specs.Io.KnownBytes.{Appends, Keeps}
 use Rattle.lisp_edge.specs.Faults.{Rose}
 use Rattle.lisp_reader.specs.Reading.{too_long, not_utf8, in_reading, longest}
-use Rattle.lisp_reader.specs.Tables.{Tables}
-use Rattle.lisp_forms.specs.Program.{IsRefused as IsRefusedForms}
-use Rattle.lisp_session.specs.Programs.{NeverBoth, Reads, IsRefused, as_text, as_data}
-use Rattle.lisp_program.specs.Program.{Program}
+use Rattle.lisp_session.specs.Programs.{NeverBoth, Reads, IsRefused, as_text, as_data, as_unbuilt}
 use Rattle.lisp_journal.specs.Refusal.{words_line}
 use Rattle.lisp_session.specs.Headline.{are_accepted, IsWhole, IsRunText, IsRefusedText, IsAnswer, of_a_run, of_a_refusal, of_words, WroteFront, IsRunStatus, CausesRun, CausesRefusal, CausesRefusedWords}
 use Rattle.lisp_session.specs.Answer.{IsRead, IsRefusalLine, FailsWriting, WroteRun, WroteRefusal, IsTextFor, run_text, refusal_text, WroteSome, Wrote, EndsAs, number_of}
@@ -70,6 +67,8 @@ is_refused (Some all) (Some rest) bytes number place r (as_text tables (in_readi
     whole_refused all rest bytes number place r.0 (r.1 text.short) (as_text tables (in_reading text found))
 is_refused (Some all) (Some rest) bytes number place r (as_data tables read reads found) =
     whole_refused all rest bytes number place r.0 (r.1 reads.text.short) (as_data tables read reads found)
+is_refused (Some all) (Some rest) bytes number place r (as_unbuilt tables read whole reads x found e) =
+    whole_refused all rest bytes number place r.0 (r.1 reads.text.short) (as_unbuilt tables read whole reads x found e)
 
 -- how answering what was read ends
 pub ends : (left left' : Option (List ℕ)) (reads reads' : ℕ) (held held' : Option (List ℕ)) (writes writes' : ℕ) (bytes : List ℕ) (outcome : Outcome)

@@ -2,7 +2,7 @@
 use Rattle.std.specs.Prelude.{◌≡◌, ℕ, ◌⊎◌, List, [], ◌∷◌, ◌++◌, Bool, true, false, Option, Some, None, take}
 use Rattle.std.specs.Io.KnownBytes.{Appends}
 use Rattle.lisp_edge.specs.Faults.{Rose}
-use Rattle.lisp_program.specs.Program.{Program}
+use Rattle.plain_program.specs.Program.{PlainProgram}
 use Rattle.world_semantics.specs.declared.entry.Entry.{Entry}
 use Rattle.run_semantics.specs.Replay.{Configuration, Replays}
 use Rattle.run_semantics.specs.Over.{IsOver}
@@ -33,7 +33,7 @@ IsWhole (Some all) (Some rest) bytes = (bytes ≡ all) × (rest ≡ [])
 -- are written with the names of the program's symbols and the texts of its string literals.
 -- The status is 0 exactly where every thread has ended there, else 3.
 pub record IsRunText (bytes text : List ℕ) (status : ℕ) : Type 0 where
-  pub program : Program
+  pub program : PlainProgram
   pub tables : Tables
   pub reads : Reads bytes tables program
   pub journal : List Entry
@@ -90,7 +90,7 @@ IsStatus status = (status ≡ 0) ⊎ (status ≡ 3) ⊎ (status ≡ 2) ⊎ (stat
 -- Where the words are accepted, the source tells a program and neither end fails, the run ends, or memory runs out.
 abbrev pub CausesRun : Bool → Option (List ℕ) → ℕ → ℕ → ℕ → ℕ → ℕ → Type 0
 CausesRun accepted left reads reads' writes writes' status =
-    (bytes : List ℕ) (tables : Tables) (program : Program) → accepted ≡ true → left ≡ Some bytes → Reads bytes tables program
+    (bytes : List ℕ) (tables : Tables) (program : PlainProgram) → accepted ≡ true → left ≡ Some bytes → Reads bytes tables program
     → ¬ Rose reads reads' → ¬ Rose writes writes' → IsRunStatus status ⊎ (status ≡ 7)
 
 -- Where the words are accepted, the source tells a text that is refused and neither end fails, that is said, or memory

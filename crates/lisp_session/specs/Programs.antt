@@ -1,32 +1,45 @@
 -- Which texts are programs, and why others are refused.
-use Rattle.std.specs.Prelude.{◌≡◌, ◌⊎◌, ℕ, List, []}
+use Rattle.std.specs.Prelude.{◌≡◌, ◌⊎◌, ℕ, List, [], Some, None}
 use Rattle.symbol_table.specs.Names.{first_symbols}
 use Rattle.lisp_program.specs.Program.{Program}
 use Rattle.lisp_reader.specs.Data.{Data}
 use Rattle.lisp_reader.specs.Reading.{Reads as ReadsData, IsRefused as IsRefusedText}
 use Rattle.lisp_reader.specs.Tables.{Tables, tables_of}
 use Rattle.lisp_forms.specs.Program.{Expands, IsRefused as IsRefusedData}
+use Rattle.plain_program.specs.Plain.{first_unbuilt, plain_program}
+use Rattle.plain_program.specs.Program.{PlainProgram}
 
 -- the tables that are there at first: five symbols, and no string literals
 abbrev pub first_tables : Tables
 first_tables = tables_of first_symbols []
 
--- The bytes are a program with these symbols and string literals: they read as data, and nothing in the data is refused.
-pub record Reads (bytes : List ℕ) (tables : Tables) (program : Program) : Type 0 where
+-- the number of the refusal of a form that is not run yet
+abbrev pub not_built : ℕ
+not_built = 10
+
+-- The bytes are a program with these symbols and string literals: they read as data, these stand for a whole program, all of
+-- whose forms are run, and the program is that one, in the kinds that are run.
+pub record Reads (bytes : List ℕ) (tables : Tables) (program : PlainProgram) : Type 0 where
   pub read : List Data
   pub reads : ReadsData bytes first_tables tables read
-  pub expands : Expands tables.symbols read program
+  pub whole : Program
+  pub expands : Expands tables.symbols tables.literals read whole
+  pub built : first_unbuilt whole.forms ≡ None
+  pub is : program ≡ plain_program whole
 
--- The bytes are refused with this number at this place: as a text, or else for what the data are that they read as.
+-- The bytes are refused with this number at this place: as a text, or for what the data are that they read as, or for the
+-- first form of their whole program that is not run yet.
 pub data IsRefused (bytes : List ℕ) (number place : ℕ) : Type 0 where
   as_text : (tables : Tables) → IsRefusedText bytes first_tables tables number place → IsRefused bytes number place
-  as_data : (tables : Tables) (read : List Data) → ReadsData bytes first_tables tables read → IsRefusedData tables.symbols read number place
-      → IsRefused bytes number place
+  as_data : (tables : Tables) (read : List Data) → ReadsData bytes first_tables tables read
+      → IsRefusedData tables.symbols tables.literals read number place → IsRefused bytes number place
+  as_unbuilt : (tables : Tables) (read : List Data) (whole : Program) → ReadsData bytes first_tables tables read
+      → Expands tables.symbols tables.literals read whole → first_unbuilt whole.forms ≡ Some place → number ≡ not_built → IsRefused bytes number place
 
 -- the bytes are some program
 pub record IsProgram (bytes : List ℕ) : Type 0 where
   pub tables : Tables
-  pub program : Program
+  pub program : PlainProgram
   pub reads : Reads bytes tables program
 
 -- the bytes are refused with some number at some place
@@ -41,7 +54,7 @@ ProgramOrRefused = (bytes : List ℕ) → IsProgram bytes ⊎ IsNoProgram bytes
 
 -- bytes are at most one program
 abbrev pub OneProgram : Type 0
-OneProgram = (bytes : List ℕ) (t u : Tables) (p q : Program) → Reads bytes t p → Reads bytes u q → (t ≡ u) × (p ≡ q)
+OneProgram = (bytes : List ℕ) (t u : Tables) (p q : PlainProgram) → Reads bytes t p → Reads bytes u q → (t ≡ u) × (p ≡ q)
 
 -- bytes are refused with one number at one place
 abbrev pub OneRefusal : Type 0
@@ -49,4 +62,4 @@ OneRefusal = (bytes : List ℕ) (m n p q : ℕ) → IsRefused bytes m p → IsRe
 
 -- no bytes are both
 abbrev pub NeverBoth : Type 0
-NeverBoth = (bytes : List ℕ) (tables : Tables) (program : Program) (number place : ℕ) → Reads bytes tables program → IsRefused bytes number place → ⊥
+NeverBoth = (bytes : List ℕ) (tables : Tables) (program : PlainProgram) (number place : ℕ) → Reads bytes tables program → IsRefused bytes number place → ⊥

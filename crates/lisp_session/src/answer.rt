@@ -1,9 +1,9 @@
 ghost use Rattle.std.specs.Prelude.{◌≡◌, ◌++◌, ℕ, List, IfOk};
 ghost use Rattle.std.specs.String.{string_bytes};
-ghost use Rattle.lisp_forms.specs.Contexts.{program_with};
 ghost use Rattle.lisp_journal.specs.Journal.{journal_text};
 ghost use Rattle.lisp_journal.specs.Report.{report_text};
 ghost use Rattle.lisp_reader.specs.Tables.{tables_of};
+ghost use Rattle.plain_program.specs.Forms.{forms_of};
 ghost use Rattle.lisp_session.specs.Answer.{Answers};
 ghost use Rattle.lisp_session.specs.Programs.{Reads};
 ghost use Rattle.lisp_session.specs.Reading.{IsRefusal};
@@ -49,13 +49,12 @@ fn journal_and_report(
 
 /// Runs a program, and writes its journal and report.
 fn run_text(alloc: Global, reading: &Reading) -> Result<Answer, Memory>
-    ensures { IfOk result (λ answer. (bytes : List ℕ) → Reads bytes (tables_of reading.now.symbols reading.now.texts) (program_with reading.now.expansion.program reading.now.expansion.specials.items) → Answers bytes answer) }
+    ensures { IfOk result (λ answer. (bytes : List ℕ) → Reads bytes (tables_of reading.now.symbols reading.now.texts) (record { forms = forms_of reading.now.forms.items; specials = reading.now.program.specials }) → Answers bytes answer) }
 {
-    let expansion = &reading.expansion;
     let finished = run_program(
         alloc,
-        &expansion.program,
-        expansion.specials.as_slice(),
+        reading.forms.as_slice(),
+        reading.program.specials(),
         STEPS,
     )?;
     let text = journal_and_report(alloc, &reading.symbols, &reading.texts, &finished)?;

@@ -1,25 +1,32 @@
 ghost use Rattle.std.specs.Prelude.{◌≡◌, IfOk};
 ghost use Rattle.std.specs.Result.{IfErr};
-ghost use Rattle.lisp_forms.specs.Contexts.{program_with};
 ghost use Rattle.lisp_reader.specs.Tables.{tables_of};
+ghost use Rattle.plain_program.specs.Forms.{forms_of};
 ghost use Rattle.lisp_session.specs.Programs.{Reads};
 ghost use Rattle.lisp_session.specs.Reading.{IsRefusal, of_data, of_text};
 ghost use Rattle.lisp_session.specs.declared.program.Refusal.TheVariants.{Memory};
 
 use lisp_base::id::Place;
 use lisp_base::memory;
-use lisp_forms::expander::{Expansion, expand};
+use lisp_forms::expander::expand;
 use lisp_forms::refusal::ExpandRefusal;
+use lisp_program::form::Program;
 use lisp_reader::reader::read_program;
 use lisp_reader::refusal::ReadRefusal;
+use plain_program::form::PlainNode;
+use plain_program::plain::{first_unbuilt, plain_nodes};
 use std::alloc::Global;
 use symbol_table::symbols::Symbols;
 use symbol_table::texts::Texts;
 
-/// A program that was read, with its symbols and string literals.
+/// The number of the refusal of a form that is not run yet.
+const NOT_BUILT: u32 = 10;
+
+/// A program that was read, with the forms of main that are run, and with its symbols and string literals.
 #[derive(Debug, Drop)]
 pub(crate) struct Reading {
-    pub expansion: Expansion,
+    pub program: Program,
+    pub forms: Vec<PlainNode>,
     pub symbols: Symbols,
     pub texts: Texts,
 }
@@ -65,15 +72,23 @@ impl From<ExpandRefusal> for Refusal {
 
 /// Reads the program that these bytes are.
 pub(crate) fn read(alloc: Global, bytes: &[u8]) -> Result<Reading, Refusal>
-    ensures read { IfOk result (λ reading. Reads bytes.now (tables_of reading.symbols reading.texts) (program_with reading.expansion.program reading.expansion.specials.items)) }
+    ensures read { IfOk result (λ reading. Reads bytes.now (tables_of reading.symbols reading.texts) (record { forms = forms_of reading.forms.items; specials = reading.program.specials })) }
     ensures refused { IfErr result (IsRefusal bytes.now) }
 {
     let mut symbols = Symbols::new(alloc)?;
     let mut texts = Texts::new(alloc)?;
     let data = read_program(alloc, bytes, &mut symbols, &mut texts)?;
-    let expansion = expand(alloc, data.as_slice(), &symbols)?;
+    let program = expand(alloc, data.as_slice(), &symbols, &texts)?;
+    if let Some(place) = first_unbuilt(program.main()) {
+        return Err(Refusal::Refused {
+            number: NOT_BUILT,
+            place,
+        });
+    }
+    let forms = plain_nodes(alloc, program.main())?;
     Ok(Reading {
-        expansion,
+        program,
+        forms,
         symbols,
         texts,
     })

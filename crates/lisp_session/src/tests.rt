@@ -246,31 +246,86 @@ fn nested(alloc: Global, depth: usize) -> Result<Vec<u8>, Fail> {
     Ok(text)
 }
 
+/// Refused programs, each with its line.
+const REFUSED: &str = r#"1 ) => refused 3 UnmatchedClose at 2
+(print "ab => refused 2 EndInside at 7
+(print 1.) => refused 4 BadToken at 7
+4611686018427387904 => refused 5 NumberTooLarge at 0
+(if 1 2 3) => refused 10 NotBuilt at 0
+(print 1) (defun f (x) x) => refused 10 NotBuilt at 10
+(if 1 2 3) (foo) => refused 11 UnknownOperator at 11
+(print) => refused 12 BadForm at 0
+(print x) => refused 13 UnknownVariable at 7
+(let ((x 1)) (setq x 2) (lambda () x)) => refused 14 FunctionPlace at 24
+(with-local-interrupts 1) => refused 15 RegionOutside at 0
+(block a (return-from b 1)) => refused 16 NoSuchBlock at 9
+(defvar *x* 1) (defvar *x* 2) => refused 18 DefinedTwice at 15"#;
+
 #[test]
-fn texts_are_refused(rt: HostRuntime) -> Result<(), Fail> {
+fn programs_are_refused(rt: HostRuntime) -> Result<(), Fail> {
     let alloc = rt.alloc();
-    for (text, line) in [
-        (
-            b"(print x)".as_slice(),
-            b"refused 13 UnknownVariable at 7\n".as_slice(),
-        ),
-        (b"1 )", b"refused 3 UnmatchedClose at 2\n"),
-        (b"(print \"ab", b"refused 2 EndInside at 7\n"),
-        (b"4611686018427387904", b"refused 5 NumberTooLarge at 0\n"),
-        (b"\xff", b"refused 1 NotUtf8 at 0\n"),
-        (b"(if 1 2 3)", b"refused 10 NotBuilt at 0\n"),
-        (b"(if 1 2 3) (foo)", b"refused 11 UnknownOperator at 11\n"),
-        (b"(print)", b"refused 12 BadForm at 0\n"),
-        (
-            b"(defvar *x* 1) (defvar *x* 2)",
-            b"refused 18 DefinedTwice at 15\n",
-        ),
-    ] {
-        let (status, held) = run(alloc, text, &[], &[])?;
+    assert_eq!(rt; REFUSED.lines().count(), 13);
+    for case in REFUSED.lines() {
+        let (text, wanted) = case.split_once(" => ").unwrap_or((case, ""));
+        let (status, held) = run(alloc, text.as_bytes(), &[], &[])?;
         assert_eq!(rt; status, 4);
-        assert_eq!(rt; held.as_slice(), line);
+        assert!(rt;
+            held.as_slice().strip_suffix(b"\n") == Some(wanted.as_bytes()),
+            "{text}"
+        );
     }
     Ok(())
+}
+
+/// So many different names of three letters, or string literals of these, each four or six bytes long.
+fn names(alloc: Global, count: usize, are_texts: bool) -> Result<Vec<u8>, Fail> {
+    let mut text = Vec::new(alloc);
+    for number in 0..count {
+        let name = [
+            b'a' + (number / 676 % 26) as u8,
+            b'a' + (number / 26 % 26) as u8,
+            b'a' + (number % 26) as u8,
+        ];
+        if are_texts {
+            text.push(b'"')?;
+        }
+        text.extend_from_slice(&name)?;
+        if are_texts {
+            text.push(b'"')?;
+        }
+        text.push(b' ')?;
+    }
+    Ok(text)
+}
+
+#[test]
+fn long_texts_are_refused(rt: HostRuntime) -> Result<(), Fail> {
+    let alloc = rt.alloc();
+    for (text, line) in [
+        (Vec::from_slice(alloc, b"\xff")?, "refused 1 NotUtf8 at 0\n"),
+        (nested(alloc, 257)?, "refused 6 TooDeep at 1792\n"),
+        (
+            names(alloc, 4_092, false)?,
+            "refused 8 TooManySymbols at 16364\n",
+        ),
+        (
+            names(alloc, 4_097, true)?,
+            "refused 9 TooManyTexts at 24576\n",
+        ),
+        (sum(alloc, 65)?, "refused 17 TooMany at 0\n"),
+    ] {
+        let (status, held) = run(alloc, text.as_slice(), &[], &[])?;
+        assert_eq!(rt; status, 4);
+        assert_eq!(rt; held.as_slice(), line.as_bytes());
+    }
+    Ok(())
+}
+
+/// A sum of so many numbers.
+fn sum(alloc: Global, count: usize) -> Result<Vec<u8>, Fail> {
+    let mut text = numbers(alloc, b"(+", count)?;
+    text.push(b')')?;
+    Ok(text)
 }
 
 #[test]

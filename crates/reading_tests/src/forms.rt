@@ -1,237 +1,471 @@
-//! What data expand to, and which programs are refused.
+//! Which programs are refused for the shapes of their forms: the number and the place of the refusal.
 use crate::cases::check;
-use crate::tables::{Tables, Told};
-use lisp_base::id::SymbolId;
-use lisp_forms::expander::expand;
-use lisp_forms::refusal::ExpandRefusal;
-use lisp_program::form::{CoreKind, FormNode};
-use lisp_reader::datum::Datum;
-use lisp_reader::print::print_value;
-use std::alloc::{AllocError, Global};
+use crate::tables::Told;
 use std::test::Fail;
-use symbol_table::error::InternError;
-
-/// Puts a word and the name of a symbol behind a text.
-fn print_named(
-    printed: &mut String,
-    word: &str,
-    symbol: SymbolId,
-    tables: &Tables,
-) -> Result<(), AllocError> {
-    printed.push_str(word)?;
-    printed.push_str(tables.symbols.name(symbol).unwrap_or("no name"))
-}
-
-/// Puts the kind of a form behind a text.
-fn print_kind(
-    alloc: Global,
-    printed: &mut String,
-    kind: CoreKind,
-    tables: &Tables,
-) -> Result<(), Fail> {
-    match kind {
-        CoreKind::Constant(value) => {
-            let text = print_value(alloc, &value, true, &tables.symbols, &tables.texts).map_err(
-                InternError::from,
-            )?;
-            printed.push_str(text.as_str())?;
-        }
-        CoreKind::Plus => printed.push_str("+")?,
-        CoreKind::Print => printed.push_str("print")?,
-        CoreKind::Progn => printed.push_str("progn")?,
-        CoreKind::Let => printed.push_str("let")?,
-        CoreKind::Special(symbol) => print_named(printed, "special ", symbol, tables)?,
-        CoreKind::Setq(symbol) => print_named(printed, "setq ", symbol, tables)?,
-        CoreKind::Defvar(symbol) => print_named(printed, "defvar ", symbol, tables)?,
-        CoreKind::Bind(symbol, above) => {
-            print_named(printed, "bind ", symbol, tables)?;
-            write!(printed, " {above}")?;
-        }
-    }
-    Ok(())
-}
-
-/// Forms as text: each node with its place, and how many stand under it where there are any.
-fn printed(alloc: Global, nodes: &[FormNode], tables: &Tables) -> Result<String, Fail> {
-    let mut printed = String::new(alloc);
-    for node in nodes {
-        if !printed.is_empty() {
-            printed.push_str(", ")?;
-        }
-        print_kind(alloc, &mut printed, node.kind, tables)?;
-        let place = node.place.0;
-        write!(printed, "@{place}")?;
-        if node.parts > 0 {
-            let parts = node.parts;
-            write!(printed, "/{parts}")?;
-        }
-    }
-    Ok(printed)
-}
-
-/// What data expand to, or the number and place of their refusal.
-pub fn expansion(alloc: Global, data: &[Datum], tables: &Tables) -> Result<String, Fail> {
-    let outcome = expand(alloc, data, &tables.symbols);
-    match &outcome {
-        Ok(expansion) => printed(alloc, expansion.program.nodes(), tables),
-        Err(ExpandRefusal::Refused { number, place }) => {
-            let at = place.0;
-            Ok(format!(in alloc; "refusal {number} at {at}")?)
-        }
-        Err(ExpandRefusal::Memory) => Err("memory ran out".into()),
-    }
-}
 
 #[test]
-fn forms_are_expanded(rt: HostRuntime) -> Result<(), Fail> {
+fn forms_without_an_operator_are_refused(rt: HostRuntime) -> Result<(), Fail> {
     check(
         &rt,
         rt.alloc(),
-        r#"cases: 33
-‹› => ‹›
-1 => 1@0
-"a" 1.5 => "a"@0, 1.500000@4
-nil T :k => NIL@0, T@4, :K@6
-'a => A@0
-'() => NIL@0
-(quote 5) => 5@0
-'"a\"b" => "a\"b"@0
-'nil => NIL@0
-(progn) => progn@0
-(progn 1) => progn@0/1, 1@7
-(progn 1 2) => progn@0/2, 1@7, 2@9
-(PRINT 'a) => print@0/1, A@7
-(+) => 0@0
-(*) => 1@0
-(+ 4) => +@0/2, 0@0, 4@3
-(+ 1 2) => +@0/2, 1@3, 2@5
-(+ 1 2 3) => +@0/2, +@0/2, 1@3, 2@5, 3@7
-(+ 1 (+ 2) 3) => +@0/2, +@0/2, 1@3, +@5/2, 0@5, 2@8, 3@11
-(cl:+ 1 'a) => +@0/2, 1@6, A@8
-(defvar *x*) => *X*@0
-(defvar *x* 1) => defvar *X*@0/1, 1@12
-(defvar x 1) x => defvar X@0/1, 1@10, special X@13
-x (defvar x) => special X@0, X@2
-(defvar *x* *x*) => defvar *X*@0/1, special *X*@12
-(defvar *x*) (setq *x* 2) => *X*@0, setq *X*@13/1, 2@23
-(let () 1 2) => progn@0/2, 1@8, 2@10
-(let ()) => progn@0
-(defvar a) (let ((a 1)) a) => A@0, let@11/2, 1@20, bind A 0@11/1, special A@24
-(defvar a) (let (a) a) => A@0, let@11/2, NIL@17, bind A 0@11/1, special A@20
-(defvar a) (let ((a)) a) => A@0, let@11/2, NIL@17, bind A 0@11/1, special A@22
-(in-package :cl-user) (declaim (speed 3)) 1 => NIL@0, NIL@22, 1@42
-(defvar a) (defvar b) (let ((a 1) b) 2 3) => A@0, B@11, let@22/3, 1@31, NIL@34, bind A 1@22/1, bind B 0@22/2, 2@37, 3@39
+        r#"cases: 41
+-- heads that are no symbols
+() => refusal 11 at 0
+(1 2) => refusal 11 at 0
+(1.5) => refusal 11 at 0
+("print" 1) => refusal 11 at 0
+((progn) 1) => refusal 11 at 0
+((lambda () 1)) => refusal 11 at 0
+('print 1) => refusal 11 at 0
+(print ()) => refusal 11 at 7
+(if 1 () 2) => refusal 11 at 6
+(let ((x ())) x) => refusal 11 at 9
+(setq *x* ()) (defvar *x*) => refusal 11 at 10
+-- symbols that are no operators
+(foo) => refusal 11 at 0
+(nil) => refusal 11 at 0
+(t 1) => refusal 11 at 0
+(:k) => refusal 11 at 0
+(*current-thread*) => refusal 11 at 0
+(while t 1) => refusal 11 at 0
+(signal-timeout) => refusal 11 at 0
+(symbol-value 'x) => refusal 11 at 0
+(special x) => refusal 11 at 0
+(foo (bar)) => refusal 11 at 0
+(print (foo 1)) => refusal 11 at 7
+(+ 1 (foo) (bar)) => refusal 11 at 5
+(block b (b)) => refusal 11 at 9
+(let ((f 1)) (f)) => refusal 11 at 13
+(defvar f 1) (f) => refusal 11 at 13
+(defun f (g) (g)) => refusal 11 at 13
+-- a definition without its shape defines no function
+(f) (defun f nil 1) => refusal 11 at 0
+(f) (progn (defun f () 1)) => refusal 11 at 0
+(f) (defun f (5) 1) => refusal 11 at 0
+(f) (defun f (t) 1) => refusal 11 at 0
+(f) (defun f) => refusal 11 at 0
+-- functions that are none of the program's
+#'foo => refusal 11 at 0
+#'print => refusal 11 at 0
+(function progn) => refusal 11 at 0
+#'nil => refusal 11 at 0
+(make-thread #'foo) => refusal 11 at 13
+(make-thread #'print) => refusal 11 at 13
+(make-thread (function foo)) => refusal 11 at 13
+(interrupt-thread *current-thread* #'foo) => refusal 11 at 35
+(defvar f 1) (make-thread #'f) => refusal 11 at 26
 "#,
-        Told::Forms,
+        Told::Verdict,
     )
 }
 
 #[test]
-fn programs_are_refused_for_their_shapes(rt: HostRuntime) -> Result<(), Fail> {
+fn core_forms_without_their_shape_are_refused(rt: HostRuntime) -> Result<(), Fail> {
     check(
         &rt,
         rt.alloc(),
-        r#"cases: 38
--- heads that are no operators
-() => refusal 11 at 0
-(1 2) => refusal 11 at 0
-((progn) 1) => refusal 11 at 0
-("print" 1) => refusal 11 at 0
-(foo) => refusal 11 at 0
-(nil) => refusal 11 at 0
-(while 1) => refusal 11 at 0
-(print (foo 1)) => refusal 11 at 7
--- forms without their shape
+        r#"cases: 79
 (quote) => refusal 12 at 0
 (quote a b) => refusal 12 at 0
 '(a) => refusal 12 at 0
 '(() a) => refusal 12 at 0
-(print) => refusal 12 at 0
-(print 1 2) => refusal 12 at 0
+''a => refusal 12 at 0
+(quote () ()) => refusal 12 at 0
+(if) => refusal 12 at 0
+(if 1) => refusal 12 at 0
+(if 1 2 3 4) => refusal 12 at 0
+(let) => refusal 12 at 0
+(let x) => refusal 12 at 0
+(let x 1) => refusal 12 at 0
+(let nil 1) => refusal 12 at 0
+(let 5 1) => refusal 12 at 0
+(let (5) 1) => refusal 12 at 0
+(let (x 1) x) => refusal 12 at 0
+(let ("x") 1) => refusal 12 at 0
+(let (()) 1) => refusal 12 at 0
+(let ((x 1 2)) 1) => refusal 12 at 0
+(let ((5 1)) 1) => refusal 12 at 0
+(let (((x) 1)) 1) => refusal 12 at 0
+(let* x 1) => refusal 12 at 0
+(let* nil 1) => refusal 12 at 0
+(let* ((x 1 2)) 1) => refusal 12 at 0
 (setq) => refusal 12 at 0
+(setf) => refusal 12 at 0
 (setq x) => refusal 12 at 0
+(setq a 1 b) => refusal 12 at 0
 (setq 5 1) => refusal 12 at 0
 (setq (x) 1) => refusal 12 at 0
+(setf (symbol-value 'x) 1) => refusal 12 at 0
+(compare-and-swap) => refusal 12 at 0
+(compare-and-swap (symbol-value 'x) 1) => refusal 12 at 0
+(compare-and-swap (symbol-value 'x) 1 2 3) => refusal 12 at 0
+(compare-and-swap x 1 2) => refusal 12 at 0
+(compare-and-swap 'x 1 2) => refusal 12 at 0
+(compare-and-swap (symbol-value x) 1 2) => refusal 12 at 0
+(compare-and-swap (symbol-value '5) 1 2) => refusal 12 at 0
+(compare-and-swap (symbol-value '(x)) 1 2) => refusal 12 at 0
+(compare-and-swap (symbol-value 'x 1) 1 2) => refusal 12 at 0
+(compare-and-swap (symbol-name 'x) 1 2) => refusal 12 at 0
+(compare-and-swap () 1 2) => refusal 12 at 0
+(block) => refusal 12 at 0
+(block 5 1) => refusal 12 at 0
+(block (b) 1) => refusal 12 at 0
+(block "b" 1) => refusal 12 at 0
+(block b (return-from)) => refusal 12 at 9
+(block b (return-from b 1 2)) => refusal 12 at 9
+(block b (return-from (b) 1)) => refusal 12 at 9
+(return-from 5) => refusal 12 at 0
+(block nil (return 1 2)) => refusal 12 at 11
+(catch) => refusal 12 at 0
+(throw) => refusal 12 at 0
+(throw 1) => refusal 12 at 0
+(throw 1 2 3) => refusal 12 at 0
+(unwind-protect) => refusal 12 at 0
+(error) => refusal 12 at 0
+(error 5) => refusal 12 at 0
+(error 'a) => refusal 12 at 0
+(error x) => refusal 12 at 0
+(error "a" 1) => refusal 12 at 0
+(error "a~%") => refusal 12 at 0
+(error "~~") => refusal 12 at 0
+(abort-thread 1) => refusal 12 at 0
+(return-from-thread) => refusal 12 at 0
+(return-from-thread 1 2) => refusal 12 at 0
+(lambda) => refusal 12 at 0
+(lambda x 1) => refusal 12 at 0
+(lambda nil 1) => refusal 12 at 0
+(lambda (5) 1) => refusal 12 at 0
+(lambda ((x 1)) 1) => refusal 12 at 0
+(function) => refusal 12 at 0
+(function a b) => refusal 12 at 0
+#'5 => refusal 12 at 0
+#'"a" => refusal 12 at 0
+#'() => refusal 12 at 0
+#'(foo) => refusal 12 at 0
+#''a => refusal 12 at 0
+#'(lambda x 1) => refusal 12 at 2
+"#,
+        Told::Verdict,
+    )
+}
+
+#[test]
+fn handlers_and_deadlines_without_their_shape_are_refused(rt: HostRuntime) -> Result<(), Fail> {
+    check(
+        &rt,
+        rt.alloc(),
+        r#"cases: 24
+(handler-case) => refusal 12 at 0
+(handler-case 1 error) => refusal 12 at 0
+(handler-case 1 ()) => refusal 12 at 0
+(handler-case 1 (error)) => refusal 12 at 0
+(handler-case 1 (error x 1)) => refusal 12 at 0
+(handler-case 1 (error nil 1)) => refusal 12 at 0
+(handler-case 1 (error (x y) 1)) => refusal 12 at 0
+(handler-case 1 (error (5) 1)) => refusal 12 at 0
+(handler-case 1 (error ((x)) 1)) => refusal 12 at 0
+(handler-case 1 (foo () 1)) => refusal 12 at 0
+(handler-case 1 (nil () 1)) => refusal 12 at 0
+(handler-case 1 ((error) () 1)) => refusal 12 at 0
+(handler-case 1 ("error" () 1)) => refusal 12 at 0
+(handler-case 1 (:no-error () 1)) => refusal 12 at 0
+(handler-case 1 (error () 1) (foo () 2)) => refusal 12 at 0
+(with-deadline) => refusal 12 at 0
+(with-deadline 5 1) => refusal 12 at 0
+(with-deadline nil 1) => refusal 12 at 0
+(with-deadline (5) 1) => refusal 12 at 0
+(with-deadline (:seconds) 1) => refusal 12 at 0
+(with-deadline (:timeout 1) 1) => refusal 12 at 0
+(with-deadline (:seconds 1 :seconds 2) 1) => refusal 12 at 0
+(with-deadline (:override t :seconds 1) 1) => refusal 12 at 0
+(with-deadline (:seconds 1 2) 1) => refusal 12 at 0
+"#,
+        Told::Verdict,
+    )
+}
+
+#[test]
+fn derived_forms_without_their_shape_are_refused(rt: HostRuntime) -> Result<(), Fail> {
+    check(
+        &rt,
+        rt.alloc(),
+        r#"cases: 40
+(when) => refusal 12 at 0
+(unless) => refusal 12 at 0
+(cond 1) => refusal 12 at 0
+(cond ()) => refusal 12 at 0
+(cond (1) 2) => refusal 12 at 0
+(cond nil) => refusal 12 at 0
+(prog1) => refusal 12 at 0
+(incf) => refusal 12 at 0
+(incf 5) => refusal 12 at 0
+(incf (x)) => refusal 12 at 0
+(incf x 1 2) => refusal 12 at 0
+(decf) => refusal 12 at 0
+(decf "x" 1) => refusal 12 at 0
+(dotimes) => refusal 12 at 0
+(dotimes i 1) => refusal 12 at 0
+(dotimes nil) => refusal 12 at 0
+(dotimes () 1) => refusal 12 at 0
+(dotimes (i) 1) => refusal 12 at 0
+(dotimes (i 1 2 3) 1) => refusal 12 at 0
+(dotimes (5 1) 1) => refusal 12 at 0
+(dotimes ((i) 1) 1) => refusal 12 at 0
+(with-mutex) => refusal 12 at 0
+(with-mutex 1 2) => refusal 12 at 0
+(with-mutex nil 1) => refusal 12 at 0
+(with-mutex () 1) => refusal 12 at 0
+(with-mutex (1 2) 3) => refusal 12 at 0
+(with-mutex (1 :wait-p) 2) => refusal 12 at 0
+(with-mutex (1 :waitp 2) 3) => refusal 12 at 0
+(with-mutex (1 :timeout 2 :wait-p 3) 4) => refusal 12 at 0
+(with-mutex (1 :wait-p 2 :wait-p 3) 4) => refusal 12 at 0
+(with-recursive-lock) => refusal 12 at 0
+(with-recursive-lock 1 2) => refusal 12 at 0
+(with-recursive-lock () 1) => refusal 12 at 0
+(with-recursive-lock (1 2) 3) => refusal 12 at 0
+(with-recursive-lock (1 :timeout 2) 3) => refusal 12 at 0
+(terminate-thread) => refusal 12 at 0
+(terminate-thread 1 2) => refusal 12 at 0
+(with-timeout) => refusal 12 at 0
+(condition-broadcast) => refusal 12 at 0
+(condition-broadcast 1 2) => refusal 12 at 0
+"#,
+        Told::Verdict,
+    )
+}
+
+#[test]
+fn functions_with_a_wrong_number_of_arguments_are_refused(rt: HostRuntime) -> Result<(), Fail> {
+    check(
+        &rt,
+        rt.alloc(),
+        r#"cases: 82
+(print) => refusal 12 at 0
+(print 1 2) => refusal 12 at 0
+(prin1) => refusal 12 at 0
+(princ 1 2) => refusal 12 at 0
+(terpri 1) => refusal 12 at 0
+(-) => refusal 12 at 0
+(max) => refusal 12 at 0
+(min) => refusal 12 at 0
+(1+) => refusal 12 at 0
+(1- 1 2) => refusal 12 at 0
+(abs) => refusal 12 at 0
+(floor 1) => refusal 12 at 0
+(truncate 1 2 3) => refusal 12 at 0
+(mod) => refusal 12 at 0
+(rem 1) => refusal 12 at 0
+(=) => refusal 12 at 0
+(= 1) => refusal 12 at 0
+(/= 1 2 3) => refusal 12 at 0
+(< 1 2 3) => refusal 12 at 0
+(>= 1) => refusal 12 at 0
+(zerop) => refusal 12 at 0
+(eq 1) => refusal 12 at 0
+(eql 1 2 3) => refusal 12 at 0
+(equal) => refusal 12 at 0
+(not) => refusal 12 at 0
+(null 1 2) => refusal 12 at 0
+(symbolp) => refusal 12 at 0
+(integerp) => refusal 12 at 0
+(stringp 1 2) => refusal 12 at 0
+(main-thread 1) => refusal 12 at 0
+(thread-yield 1) => refusal 12 at 0
+(make-thread) => refusal 12 at 0
+(join-thread) => refusal 12 at 0
+(join-thread 1 2) => refusal 12 at 0
+(interrupt-thread 1) => refusal 12 at 0
+(interrupt-thread 1 #'f 2) (defun f () 1) => refusal 12 at 0
+(thread-alive-p) => refusal 12 at 0
+(grab-mutex) => refusal 12 at 0
+(release-mutex) => refusal 12 at 0
+(mutex-owner) => refusal 12 at 0
+(holding-mutex-p 1 2) => refusal 12 at 0
+(condition-wait 1) => refusal 12 at 0
+(condition-notify) => refusal 12 at 0
+(condition-notify 1 2 3) => refusal 12 at 0
+(sleep) => refusal 12 at 0
+(sleep 1 2) => refusal 12 at 0
+(make-timer) => refusal 12 at 0
+(schedule-timer 1) => refusal 12 at 0
+(unschedule-timer) => refusal 12 at 0
+(unschedule-timer 1 2) => refusal 12 at 0
+-- keywords
+(make-mutex "a") => refusal 12 at 0
+(make-mutex :name) => refusal 12 at 0
+(make-mutex :name 1 :name 2) => refusal 12 at 0
+(make-waitqueue :named 1) => refusal 12 at 0
+(make-thread (lambda () 1) 2) => refusal 12 at 0
+(make-thread (lambda () 1) :arguments 1 :name 2) => refusal 12 at 0
+(make-thread (lambda () 1) :name 1 2) => refusal 12 at 0
+(make-thread (lambda () 1) name 2) => refusal 12 at 0
+(make-thread :name 1 (lambda () 1)) => refusal 12 at 0
+(join-thread 1 :timeout 2 :default 3) => refusal 12 at 0
+(grab-mutex 1 :timeout 2 :waitp 3) => refusal 12 at 0
+(grab-mutex 1 :wait-p 2) => refusal 12 at 0
+(release-mutex 1 :warn) => refusal 12 at 0
+(condition-wait 1 2 3) => refusal 12 at 0
+(condition-wait 1 2 :timeout) => refusal 12 at 0
+(make-timer (lambda () 1) :thread 1 :name 2) => refusal 12 at 0
+(schedule-timer 1 2 3) => refusal 12 at 0
+(schedule-timer 1 2 :catch-up t :repeat-interval 1) => refusal 12 at 0
+(condition-notify 1 :n 2) => refusal 12 at 0
+-- controls of `format`
+(format) => refusal 12 at 0
+(format t) => refusal 12 at 0
+(format nil "a") => refusal 12 at 0
+(format 1 "a") => refusal 12 at 0
+(format t 5) => refusal 12 at 0
+(format t x) => refusal 12 at 0
+(format t "~b" 1) => refusal 12 at 0
+(format t "~") => refusal 12 at 0
+(format t "a~") => refusal 12 at 0
+(format t "~5d" 1) => refusal 12 at 0
+(format t "~a") => refusal 12 at 0
+(format t "~a~%~s~~~D" 1 2) => refusal 12 at 0
+(format "a" t) => refusal 12 at 0
+"#,
+        Told::Verdict,
+    )
+}
+
+#[test]
+fn what_may_not_be_a_variable_is_refused(rt: HostRuntime) -> Result<(), Fail> {
+    check(
+        &rt,
+        rt.alloc(),
+        r#"cases: 45
+(let ((nil 1)) 1) => refusal 12 at 0
+(let ((t 1)) 1) => refusal 12 at 0
+(let (:k) 1) => refusal 12 at 0
+(let (x nil) 1) => refusal 12 at 0
+(let (*current-thread*) 1) => refusal 12 at 0
+(let* ((x 1) (nil x)) 1) => refusal 12 at 0
+(let* ((t)) 1) => refusal 12 at 0
+(let* (*current-thread*) 1) => refusal 12 at 0
 (setq nil 1) => refusal 12 at 0
 (setq t 1) => refusal 12 at 0
 (setq :k 1) => refusal 12 at 0
 (setq *current-thread* 1) => refusal 12 at 0
-(setq a 1 b) => refusal 12 at 0
-(let) => refusal 12 at 0
-(let x) => refusal 12 at 0
-(let nil 1) => refusal 12 at 0
-(let (5) 1) => refusal 12 at 0
-(let ((x 1 2)) 1) => refusal 12 at 0
-(let (()) 1) => refusal 12 at 0
-(let ((5 1)) 1) => refusal 12 at 0
-(let ((nil 1)) 1) => refusal 12 at 0
-(let (:k) 1) => refusal 12 at 0
+(setf nil 1) => refusal 12 at 0
+(setf *current-thread* 1) => refusal 12 at 0
+(setq x 1 t 2) => refusal 12 at 0
+(incf nil) => refusal 12 at 0
+(incf t 1) => refusal 12 at 0
+(decf :k) => refusal 12 at 0
+(decf *current-thread* 2) => refusal 12 at 0
+(dotimes (nil 1) 1) => refusal 12 at 0
+(dotimes (t 1) 1) => refusal 12 at 0
+(dotimes (:k 1) 1) => refusal 12 at 0
+(dotimes (*current-thread* 1) 1) => refusal 12 at 0
+(handler-case 1 (error (nil) 1)) => refusal 12 at 0
+(handler-case 1 (error (t) 1)) => refusal 12 at 0
+(handler-case 1 (error (:k) 1)) => refusal 12 at 0
+(handler-case 1 (error (*current-thread*) 1)) => refusal 12 at 0
+(defun f (nil) 1) => refusal 12 at 0
+(defun f (x t) 1) => refusal 12 at 0
+(defun f (:k) 1) => refusal 12 at 0
+(defun f (*current-thread*) 1) => refusal 12 at 0
+(make-thread (lambda (nil) 1)) => refusal 12 at 13
+(make-thread (lambda (t) 1)) => refusal 12 at 13
+(make-thread (lambda (:k) 1)) => refusal 12 at 13
+(make-thread (lambda (*current-thread*) 1)) => refusal 12 at 13
+(defvar nil) => refusal 12 at 0
+(defvar t 1) => refusal 12 at 0
+(defvar :k) => refusal 12 at 0
+(defvar *current-thread* 1) => refusal 12 at 0
+(defparameter nil 1) => refusal 12 at 0
+(defparameter *current-thread* 1) => refusal 12 at 0
+(defun nil () 1) => refusal 12 at 0
+(defun t () 1) => refusal 12 at 0
+(defun :k () 1) => refusal 12 at 0
+(defun *current-thread* () 1) => refusal 12 at 0
+"#,
+        Told::Verdict,
+    )
+}
+
+#[test]
+fn forms_of_the_top_level_are_refused(rt: HostRuntime) -> Result<(), Fail> {
+    check(
+        &rt,
+        rt.alloc(),
+        r#"cases: 71
 (defvar) => refusal 12 at 0
 (defvar 5) => refusal 12 at 0
-(defvar nil) => refusal 12 at 0
-(defvar *current-thread* 1) => refusal 12 at 0
+(defvar "x" 1) => refusal 12 at 0
+(defvar (x) 1) => refusal 12 at 0
 (defvar *x* 1 2) => refusal 12 at 0
+(defvar *x* 1 'a) => refusal 12 at 0
 (defvar *x* 1 "a" 2) => refusal 12 at 0
-"#,
-        Told::Forms,
-    )
-}
-
-#[test]
-fn programs_are_refused_for_their_names(rt: HostRuntime) -> Result<(), Fail> {
-    check(
-        &rt,
-        rt.alloc(),
-        r#"cases: 27
--- forms of the top level elsewhere
+(defparameter) => refusal 12 at 0
+(defparameter *x*) => refusal 12 at 0
+(defparameter *x* 1 2) => refusal 12 at 0
+(defparameter *x* 1 "a" "b") => refusal 12 at 0
+(defparameter 5 1) => refusal 12 at 0
+(defun) => refusal 12 at 0
+(defun f) => refusal 12 at 0
+(defun f x 1) => refusal 12 at 0
+(defun f nil 1) => refusal 12 at 0
+(defun f (5) 1) => refusal 12 at 0
+(defun f ((x 1)) 1) => refusal 12 at 0
+(defun 5 () 1) => refusal 12 at 0
+(defun "f" () 1) => refusal 12 at 0
+(defun (f) () 1) => refusal 12 at 0
+-- elsewhere
 (progn (defvar *x* 1)) => refusal 12 at 7
 (print (defun f () 1)) => refusal 12 at 7
-(progn (in-package :cl-user)) => refusal 12 at 7
-(defparameter *x*) => refusal 12 at 0
--- symbols that are no variables
-x => refusal 13 at 0
-(print x) => refusal 13 at 7
-(setq x 1) => refusal 13 at 6
-(setq x (foo)) => refusal 13 at 6
-*x* (progn (defvar *x* 1)) => refusal 13 at 0
-(print *x*) (defvar *x* 1 2) => refusal 13 at 7
--- twice
-(defvar *x* 1) (defvar *x* 2) => refusal 18 at 15
-(defvar *x* 1) (defparameter *x* 2) => refusal 18 at 15
-(defvar a) (let (a (a 1)) 1) => refusal 18 at 11
-(let ((x 1) (x (foo))) 1) => refusal 18 at 0
--- what is not built yet
-(if 1 2 3) => refusal 10 at 0
-(* 1 2) => refusal 10 at 0
-*current-thread* => refusal 10 at 0
-(let ((x 1)) x) => refusal 10 at 0
-(defvar a) (setq a 1 a 2) => refusal 10 at 11
-(defvar *x* 1 "what it is") => refusal 10 at 0
-(defun f () 1) (f) => refusal 10 at 0
-(defparameter *x* 1) (print *x*) => refusal 10 at 0
-(print *x*) (defparameter *x* 1 "what it is") => refusal 10 at 12
-(f) (defun f () 1) => refusal 10 at 0
--- which one is told
-(if 1 2 3) (print) => refusal 12 at 11
-(print (foo) (bar)) (baz) => refusal 12 at 0
-(+ x (print) y) => refusal 13 at 3
+(let () (defparameter *x* 1)) => refusal 12 at 8
+(when 1 (in-package :cl-user)) => refusal 12 at 8
+(progn (declaim (speed 3))) => refusal 12 at 7
+(block b (use-package :a)) => refusal 12 at 9
+(defun f () (defun g () 1)) => refusal 12 at 12
+(defun f () (defvar)) => refusal 12 at 12
+(defvar *x* (defvar *y*)) => refusal 12 at 12
+(make-thread (lambda () (defun f () 1))) => refusal 12 at 24
+(dotimes (i 2) (defvar *x* i)) => refusal 12 at 15
+-- where `declare` may not stand
+(declare) => refusal 12 at 0
+(declare (ignore x)) => refusal 12 at 0
+(print (declare)) => refusal 12 at 7
+(progn (declare)) => refusal 12 at 7
+(let () 1 (declare)) => refusal 12 at 10
+(let ((x (declare))) 1) => refusal 12 at 9
+(let () (declare (special x)) 1) => refusal 12 at 8
+(let () (declare) (declare (a (b special))) 1) => refusal 12 at 18
+(let () (declare special)) => refusal 12 at 8
+(let* () "a" (declare) 1) => refusal 12 at 13
+(defun f () 1 (declare)) => refusal 12 at 14
+(defun f () "a" "b" (declare) 1) => refusal 12 at 20
+(defun f () (declare) "a" (declare) 1) => refusal 12 at 26
+(defun f (x) (declare (special x)) 1) => refusal 12 at 13
+(make-thread (lambda () 1 (declare))) => refusal 12 at 26
+(block b 1 (declare)) => refusal 12 at 11
+(catch (declare) 1) => refusal 12 at 7
+(catch 1 2 (declare)) => refusal 12 at 11
+(without-interrupts 1 (declare)) => refusal 12 at 22
+(handler-case (declare) (error () 1)) => refusal 12 at 14
+(handler-case 1 (error () 1 (declare))) => refusal 12 at 28
+(with-deadline () 1 (declare)) => refusal 12 at 20
+(prog1 (declare) 1) => refusal 12 at 7
+(loop 1 (declare)) => refusal 12 at 8
+(dotimes (i (declare)) 1) => refusal 12 at 12
+(with-mutex ((declare)) 1) => refusal 12 at 13
+(if (declare) 1) => refusal 12 at 4
+(when 1 (declare) 2) => refusal 12 at 8
+(unless 1 (declare) 2) => refusal 12 at 10
+(cond (1 (declare) 2)) => refusal 12 at 9
+(cond ((declare) 2)) => refusal 12 at 7
+(and (declare)) => refusal 12 at 5
+(or 1 (declare)) => refusal 12 at 6
+(unwind-protect (declare)) => refusal 12 at 16
+(unwind-protect 1 (declare)) => refusal 12 at 18
+(ignore-errors (declare) 1) => refusal 12 at 15
+(with-timeout 1 (declare) 2) => refusal 12 at 16
+(throw 1 (declare)) => refusal 12 at 9
+(return-from-thread (declare)) => refusal 12 at 20
 "#,
-        Told::Forms,
-    )
-}
-
-#[test]
-fn forms_have_64_arguments_at_most(rt: HostRuntime) -> Result<(), Fail> {
-    check(
-        &rt,
-        rt.alloc(),
-        r#"cases: 5
-(+ ‹65×1 ›) => refusal 17 at 0
-(* ‹65×1 ›) => refusal 17 at 0
-(let (‹65×x№ ›) 1) => refusal 17 at 0
-(let (‹64×x№ ›) 1) => refusal 10 at 0
-‹257×(defvar *x№*)› => refusal 17 at 3730
-"#,
-        Told::Forms,
+        Told::Verdict,
     )
 }

@@ -4,6 +4,16 @@
 #[cfg(test)]
 mod cases;
 #[cfg(test)]
+mod expanded;
+#[cfg(test)]
+mod form_limits;
+#[cfg(test)]
+mod form_places;
+#[cfg(test)]
+mod form_text;
+#[cfg(test)]
+mod form_words;
+#[cfg(test)]
 mod forms;
 #[cfg(test)]
 mod programs;

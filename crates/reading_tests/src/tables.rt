@@ -1,5 +1,5 @@
 //! What texts read as over tables of names and string literals, as text, for the tests of the reader.
-use crate::forms::expansion;
+use crate::form_text::{expansion, verdict};
 use lisp_base::id::{Micros, Place, StringId, SymbolId};
 use lisp_reader::datum::{Datum, DatumKind, DatumNode};
 use lisp_reader::reader::read_program;
@@ -29,8 +29,12 @@ pub enum Told {
     Kept,
     /// Each node with the numbers in it and its place, and behind them the names and the literals.
     Kinds,
-    /// The forms that the data expand to.
+    /// The forms that the data expand to, each with its place.
+    Places,
+    /// The same without places.
     Forms,
+    /// Whether the data are a program.
+    Verdict,
 }
 
 impl Tables {
@@ -67,7 +71,7 @@ impl Tables {
             Err((number, place)) => format!(in alloc; "refusal {number} at {place}")?,
         };
         match told {
-            Told::Data | Told::Count | Told::Forms => {}
+            Told::Data | Told::Count | Told::Places | Told::Forms | Told::Verdict => {}
             Told::Kept | Told::Kinds => {
                 printed.push_str(self.names(alloc)?.as_str())?;
                 printed.push_str(self.literals(alloc)?.as_str())?;
@@ -82,7 +86,9 @@ impl Tables {
             Told::Data => Ok(self.printed(alloc, data)?),
             Told::Count | Told::Kept => Ok(count(alloc, data)?),
             Told::Kinds => Ok(kinds(alloc, data)?),
-            Told::Forms => expansion(alloc, data, self),
+            Told::Places => expansion(alloc, data, self, true),
+            Told::Forms => expansion(alloc, data, self, false),
+            Told::Verdict => verdict(alloc, data, self),
         }
     }
 

@@ -5,8 +5,8 @@ pub mod Run
 pub mod Rows
 pub use Rattle.lisp_base.specs.Value
 pub use Rattle.lisp_base.specs.Forest
-pub use Rattle.lisp_program.specs.Forms
-pub use Rattle.lisp_program.specs.Points
+pub use Rattle.plain_program.specs.Forms
+pub use Rattle.plain_program.specs.Points
 pub use Rattle.world_semantics.specs.World
 pub use Rattle.world_semantics.specs.Effect
 pub use Rattle.thread_semantics.specs.State

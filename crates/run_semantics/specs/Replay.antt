@@ -2,7 +2,7 @@
 use Rattle.std.specs.Prelude.{◌≡◌, ℕ, suc, ◌<◌, List, [], ◌∷◌, Option, Some, None, map, slice_get, slice_set}
 use Rattle.lisp_base.specs.declared.id.Actor.{Actor}
 use Rattle.lisp_base.specs.declared.id.Actor.TheVariants.{Thread, Runner}
-use Rattle.lisp_program.specs.Program.{Program}
+use Rattle.plain_program.specs.Program.{PlainProgram}
 use Rattle.world_semantics.specs.declared.entry.Entry.{Entry}
 use Rattle.world_semantics.specs.World.{World, first_world}
 use Rattle.world_semantics.specs.Effect.{effect_of, reply_of, world_after}
@@ -17,7 +17,7 @@ pub record Configuration : Type 0 where
   pub runner : ℕ
 
 -- main alone, before its first point
-abbrev pub first_configuration : Program → Configuration
+abbrev pub first_configuration : PlainProgram → Configuration
 first_configuration p = record { world = first_world p.specials; threads = first_state p.forms ∷ []; runner = 0 }
 
 -- The entry is the next operation of a thread that has come to it: points are left, the operation is the
@@ -71,6 +71,6 @@ all_closed limit c = record c { threads = map (closed limit) c.threads }
 
 -- The journal is a run of the program: its entries may come one after the other, from ticket 1 on, and lead to
 -- this configuration, in which each thread has gone on as far as it can.
-pub record Replays (limit : ℕ) (p : Program) (journal : List Entry) (c : Configuration) : Type 0 where
+pub record Replays (limit : ℕ) (p : PlainProgram) (journal : List Entry) (c : Configuration) : Type 0 where
   pub legal : AreLegal limit 1 (first_configuration p) journal
   pub last : c ≡ all_closed limit (after_entries limit journal (first_configuration p))

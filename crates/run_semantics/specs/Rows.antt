@@ -5,10 +5,10 @@ use Rattle.lisp_base.specs.declared.condition.Class.TheVariants.{IntegerRange}
 use Rattle.lisp_base.specs.declared.id.Actor.TheVariants.{Thread}
 use Rattle.lisp_base.specs.declared.value.Node.{Node}
 use Rattle.lisp_base.specs.declared.value.Node.TheVariants.{Int}
-use Rattle.lisp_program.specs.Forms.{Forms}
-use Rattle.lisp_program.specs.Points.{nil}
-use Rattle.lisp_program.specs.Program.{Program}
-use Rattle.lisp_program.specs.declared.form.CoreKind.TheVariants.{Constant, Plus, Print, Special, Setq, Defvar, Let, Bind}
+use Rattle.plain_program.specs.Forms.{PlainForms}
+use Rattle.plain_program.specs.Points.{nil}
+use Rattle.plain_program.specs.Program.{PlainProgram}
+use Rattle.plain_program.specs.declared.form.PlainKind.TheVariants.{Constant, Plus, Print, Special, Setq, Defvar, Let, Bind}
 use Rattle.world_semantics.specs.declared.entry.Entry.{Entry}
 use Rattle.world_semantics.specs.declared.op.Op.{Op}
 use Rattle.world_semantics.specs.declared.op.Op.TheVariants.{Get, Set, Boundp, Out, Finish}
@@ -48,11 +48,11 @@ main_out points frames globals = record {
 abbrev pub has_value : ℕ → Node → Global
 has_value symbol value = record { symbol = symbol; value = Some value }
 
-abbrev pub number : ℕ → ℕ → Forms → Forms
+abbrev pub number : ℕ → ℕ → PlainForms → PlainForms
 number n place beside = Tree (Constant (Int (pos n))) place NoTrees beside
 
 -- `(print (+ 1 2))`
-abbrev pub printed_sum : Program
+abbrev pub printed_sum : PlainProgram
 printed_sum = record { forms = Tree Print 0 (Tree Plus 7 (number 1 10 (number 2 12 NoTrees)) NoTrees) NoTrees; specials = [] }
 
 -- its journal: `out` at point 4, `finish` at point 5
@@ -60,7 +60,7 @@ abbrev pub printed_sum_journal : List Entry
 printed_sum_journal = main_does 1 4 (Out (PrintsValue (Int (pos 3)))) Okay ∷ main_does 2 5 (Finish (Returned (Int (pos 3)))) Okay ∷ []
 
 -- the program without forms
-abbrev pub no_forms : Program
+abbrev pub no_forms : PlainProgram
 no_forms = record { forms = NoTrees; specials = [] }
 
 -- it returns NIL: `finish` at point 2
@@ -69,7 +69,7 @@ no_forms_journal = main_does 1 2 (Finish (Returned nil)) Okay ∷ []
 
 -- `(defvar *x* 0) (defvar *y* 0) (let ((*x* 1)) (let ((*y* 2)) (setq *x* 5)) (print *x*)) *x*`, where *X* is symbol 5 and
 -- *Y* symbol 6
-abbrev pub outer_setq : Program
+abbrev pub outer_setq : PlainProgram
 outer_setq = record {
   forms =
       Tree (Defvar 5) 0 (number 0 12 NoTrees)
@@ -99,7 +99,7 @@ outer_setq_journal =
     ∷ []
 
 -- `(defvar *x* 999999999999999999) (let ((*x* (+ *x* *x*))) (+ *x* (+ *x* *x*)))`
-abbrev pub sum_past_range : Program
+abbrev pub sum_past_range : PlainProgram
 sum_past_range = record {
   forms =
       Tree (Defvar 5) 0 (number 999999999999999999 12 NoTrees)
@@ -110,7 +110,7 @@ sum_past_range = record {
   specials = 5 ∷ [];
 }
   where
-    variable : ℕ → Forms → Forms
+    variable : ℕ → PlainForms → PlainForms
     variable place beside = Tree (Special 5) place NoTrees beside
 
 -- the sum signals at point 13, the binding is left at point 14, and main is aborted at point 15

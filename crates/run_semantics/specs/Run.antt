@@ -1,6 +1,6 @@
 -- Whole runs.
 use Rattle.std.specs.Prelude.{◌≡◌, ℕ, List}
-use Rattle.lisp_program.specs.Program.{Program}
+use Rattle.plain_program.specs.Program.{PlainProgram}
 use Rattle.world_semantics.specs.declared.entry.Entry.{Entry}
 use Rattle.run_semantics.specs.declared.report.Report.{Report}
 use Rattle.run_semantics.specs.Replay.{Configuration, Replays}
@@ -8,7 +8,7 @@ use Rattle.run_semantics.specs.Over.{IsOver}
 use Rattle.run_semantics.specs.Report.{report_of}
 
 -- with at most limit points for each thread, the program has a run with this journal, which ends with this report
-pub record RunsAs (limit : ℕ) (p : Program) (journal : List Entry) (report : Report) : Type 0 where
+pub record RunsAs (limit : ℕ) (p : PlainProgram) (journal : List Entry) (report : Report) : Type 0 where
   pub last : Configuration
   pub replays : Replays limit p journal last
   pub over : IsOver limit last

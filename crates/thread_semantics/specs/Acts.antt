@@ -5,9 +5,9 @@ use Rattle.lisp_base.specs.declared.condition.Class.{Class}
 use Rattle.lisp_base.specs.declared.condition.Class.TheVariants.{TypeError, IntegerRange}
 use Rattle.lisp_base.specs.declared.value.Node.{Node}
 use Rattle.lisp_base.specs.declared.value.Node.TheVariants.{Int}
-use Rattle.lisp_program.specs.declared.act.Act.{Act}
-use Rattle.lisp_program.specs.declared.act.Act.TheVariants.{Push, Discard, Add}
-use Rattle.lisp_program.specs.Points.{nil}
+use Rattle.plain_program.specs.declared.act.Act.{Act}
+use Rattle.plain_program.specs.declared.act.Act.TheVariants.{Push, Discard, Add}
+use Rattle.plain_program.specs.Points.{nil}
 
 -- the front value
 abbrev pub top : List Node → Node

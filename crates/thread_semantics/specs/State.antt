@@ -3,8 +3,8 @@ use Rattle.std.specs.Prelude.{ℕ, List, []}
 use Rattle.lisp_base.specs.declared.value.Node.{Node}
 use Rattle.world_semantics.specs.declared.phase.Ending.{Ending}
 use Rattle.environment_semantics.specs.Environment.{Binding}
-use Rattle.lisp_program.specs.Forms.{Forms}
-use Rattle.lisp_program.specs.Points.{Points, main_points}
+use Rattle.plain_program.specs.Forms.{PlainForms}
+use Rattle.plain_program.specs.Points.{Points, main_points}
 
 -- the kinds of frames, which are the contexts that an exit passes: a binding, with the map at its entry
 pub data FrameKind : Type 0 where
@@ -41,5 +41,5 @@ pub record ThreadState : Type 0 where
   pub points : ℕ
 
 -- main before its first point
-abbrev pub first_state : Forms → ThreadState
+abbrev pub first_state : PlainForms → ThreadState
 first_state f = record { control = At (main_points f) []; frames = []; environment = record { bindings = [] }; store = []; points = 0 }

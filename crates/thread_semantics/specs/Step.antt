@@ -6,11 +6,11 @@ use Rattle.lisp_base.specs.declared.condition.Condition.{Condition}
 use Rattle.lisp_base.specs.declared.value.Node.{Node}
 use Rattle.lisp_base.specs.declared.value.Node.TheVariants.{Symbol}
 use Rattle.environment_semantics.specs.Environment.{Binding, place_of, value_of, bound, written}
-use Rattle.lisp_program.specs.declared.act.Opening.{Opening}
-use Rattle.lisp_program.specs.declared.act.Opening.TheVariants.{Bind}
-use Rattle.lisp_program.specs.declared.act.Question.{Question}
-use Rattle.lisp_program.specs.declared.act.Question.TheVariants.{Print as AskPrint, Read, Write, Define, EndThread}
-use Rattle.lisp_program.specs.Points.{Points, Done, Do, Ask, Test, Enter, joined, nil}
+use Rattle.plain_program.specs.declared.act.Opening.{Opening}
+use Rattle.plain_program.specs.declared.act.Opening.TheVariants.{Bind}
+use Rattle.plain_program.specs.declared.act.Question.{Question}
+use Rattle.plain_program.specs.declared.act.Question.TheVariants.{Print as AskPrint, Read, Write, Define, EndThread}
+use Rattle.plain_program.specs.Points.{Points, Done, Do, Ask, Test, Enter, joined, nil}
 use Rattle.world_semantics.specs.declared.op.Op.{Op}
 use Rattle.world_semantics.specs.declared.op.Op.TheVariants.{Get, Set, Boundp, Out, Finish}
 use Rattle.world_semantics.specs.declared.op.Printed.TheVariants.{Print}

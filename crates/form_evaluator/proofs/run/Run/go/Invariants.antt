@@ -1,6 +1,6 @@
-use Rattle.lisp_program.specs.Program.{Program}
+use Rattle.plain_program.specs.Program.{PlainProgram}
 use Rattle.form_evaluator.specs.Running.{Ran}
 use Rattle.form_evaluator.proofs.run.Run.go.Given as goal
 
 abbrev pub invariant-loop-turn : goal.invariant-loop-turn
-invariant-loop-turn l = (f : Program) → Ran l.limit f 0 l.fn.self → Ran l.limit f l._turn l.self
+invariant-loop-turn l = (f : PlainProgram) → Ran l.limit f 0 l.fn.self → Ran l.limit f l._turn l.self

@@ -1,0 +1,145 @@
+-- A `loop` and a `dotimes`.
+use Rattle.std.proofs.Common.{◌≡◌, ℕ, suc, pos, ◌+◌, List, [], ◌∷◌, ◌++◌, Bool, true, false, Option, OnOk, Ok, Err, Result, if◌then◌else◌, refl, ap, sym, ◌∙◌, add-one, append_assoc, append-nil}
+use Rattle.lisp_base.specs.Forest.{count_of}
+use Rattle.lisp_program.specs.declared.form.CoreKind.{CoreKind}
+use Rattle.lisp_program.specs.declared.form.CoreKind.TheVariants.{BindLocal, Block as BlockForm, Let, While}
+use Rattle.lisp_reader.specs.Data.{Data, behind, count_of as data_in}
+use Rattle.lisp_forms.specs.declared.expanded.Expanded.TheVariants.{Form}
+use Rattle.lisp_forms.specs.declared.expanded.ExpandedNode.{ExpandedNode}
+use Rattle.lisp_forms.specs.declared.keywords.Roles.TheVariants.{From}
+use Rattle.lisp_forms.specs.declared.levels.Level.TheVariants.{Block}
+use Rattle.lisp_forms.specs.declared.scope.Opened.{Opened}
+use Rattle.lisp_forms.specs.Bindings.{body_of, opened_by}
+use Rattle.lisp_forms.specs.Contexts.{with_opened}
+use Rattle.lisp_forms.specs.Expansion.{body_in, forms_in, in_dotimes, in_turn, result_of, within_first}
+use Rattle.lisp_forms.specs.Flat.{flat, flat_one, node}
+use Rattle.lisp_forms.specs.One.{items_first}
+use Rattle.lisp_forms.specs.Rows.{bind_kind, blocked, dotimes_form, loop_form, lowered, more_form, number_form, result_form, returns_to, step_form, true_form, turn_form, turns_form}
+use Rattle.lisp_forms.specs.Scopes.{Scope, inside}
+use Rattle.lisp_forms.specs.Trees.{Expansion, Single, both, first, form, in_front, only, second, three}
+use Rattle.lisp_forms.specs.Written.{turn_head}
+use Rattle.lisp_forms.proofs.Parts.{body-forms, count-forms, last_step, others-forms, roles-from_0, two_steps, within-items}
+
+-- one form in its implicit block is one form
+flat-blocked : (n p : ℕ) (a : Single) → flat (blocked n p (only a)) ≡ flat_one (first p (blocked n p (only a)))
+flat-blocked n p a = by (returns_to n (only a))
+  where
+    by : (t : Bool) → flat (if t then only (form (BlockForm n) p (only a)) else lowered n (only a))
+        ≡ flat_one (first p (if t then only (form (BlockForm n) p (only a)) else lowered n (only a)))
+    by true = rw append-nil refl
+    by false = rw append-nil refl
+
+-- one form in its implicit block
+blocked_one : {A E : Type 0} (r : Result A E) (n p : ℕ) (a : Single) (ns old new : List ExpandedNode) → ns ≡ flat_one a
+    → OnOk r ((e : Expansion) → ns ≡ flat e → 1 ≡ count_of e → new ≡ old ++ flat (blocked n p e)) → OnOk r (new ≡ old ++ flat_one (first p (blocked n p (only a))))
+blocked_one (Ok v) n p a ns old new is h = h (only a) (is ∙ sym (append-nil (flat_one a))) refl ∙ ap (λ ms. old ++ ms) (flat-blocked n p a)
+blocked_one (Err v) n p a ns old new is h = h
+
+-- a `loop`
+pub loop_written : {A E : Type 0} (r : Result A E) (s : Scope) (o : Opened) (p name n : ℕ) (args body : Data) (none one two all old new : List ExpandedNode)
+    → with_opened s o ≡ inside s (Block name) → name ≡ 0 → body ≡ body_of s.names args → n ≡ data_in body
+    → none ≡ [] → one ≡ none ++ node (Form While) p (n + 1) ∷ [] → two ≡ one ++ flat_one (true_form p) → all ≡ two ++ flat (forms_in (with_opened s o) body)
+    → OnOk r ((e : Expansion) → all ≡ flat e → 1 ≡ count_of e → new ≡ old ++ flat (blocked s.depth p e))
+    → OnOk r (new ≡ old ++ flat_one (loop_form s.depth p (body_in (inside s (Block 0)) 0 args)))
+loop_written r s o p name n args body none one two all old new opens nil begins many empty begun tested done h =
+    let t : Scope = with_opened s o in
+    let fs : Expansion = forms_in t body in
+    let same : fs ≡ body_in (inside s (Block 0)) 0 args =
+    ap (forms_in t) begins ∙ sym (body-forms t 0 args) ∙ ap (λ u. body_in u 0 args) (opens ∙ ap (λ m. inside s (Block m)) nil) in
+    let count : n + 1 ≡ suc (count_of fs) = add-one n ∙ ap suc (many ∙ sym (count-forms t body)) in
+    let nodes : all ≡ flat_one (form While p (in_front (true_form p) fs)) =
+    done ∙ ap (λ ns. ns ++ flat fs) (tested ∙ ap (λ ns. ns ++ flat_one (true_form p)) (begun ∙ ap (λ ns. ns ++ node (Form While) p (n + 1) ∷ []) empty))
+    ∙ ap (λ m. node (Form While) p m ∷ (flat_one (true_form p) ++ flat fs)) count in
+    blocked_one r s.depth p (form While p (in_front (true_form p) (body_in (inside s (Block 0)) 0 args))) all old new
+    (nodes ∙ ap (λ e. flat_one (form While p (in_front (true_form p) e))) same) h
+
+-- the second in the list that is the first
+second-within : (t : Scope) (p : ℕ) (args items rest : Data) → items ≡ items_first args → rest ≡ behind 1 items
+    → first p (forms_in t rest) ≡ second p (within_first t (From 0) args)
+second-within t p args items rest is behind =
+    ap (λ d. first p (forms_in t d)) behind ∙ sym (ap (first p) (others-forms t items))
+    ∙ ap (λ d. second p (forms_in t d)) is ∙ sym (ap (second p) (within-items t (From 0) args ∙ roles-from_0 t (items_first args)))
+
+-- a `let` of three forms
+three_nodes : (p : ℕ) (a b c : Single) (one two three' all : List ExpandedNode) → one ≡ node (Form Let) p 3 ∷ [] → two ≡ one ++ flat_one a → three' ≡ two ++ flat_one b
+    → all ≡ three' ++ flat_one c → all ≡ flat_one (form Let p (in_front a (in_front b (only c))))
+three_nodes p a b c one two three' all h i j k =
+    k ∙ ap (λ ns. ns ++ flat_one c) (j ∙ ap (λ ns. ns ++ flat_one b) (i ∙ ap (λ ns. ns ++ flat_one a) h)) ∙ rw (append_assoc, append-nil) refl
+
+-- a `dotimes`
+pub dotimes_written : {A E : Type 0} (r : Result A E) (s : Scope) (o : Opened) (p name x : ℕ) (args items rest : Data) (body : Expansion) (result : Option Single) (none one two three' all old new : List ExpandedNode)
+    → with_opened s o ≡ inside s (Block name) → name ≡ 0 → items ≡ items_first args → rest ≡ behind 1 items
+    → none ≡ [] → one ≡ none ++ node (Form Let) p 3 ∷ [] → two ≡ one ++ flat_one (first p (forms_in (with_opened s o) rest)) → three' ≡ two ++ flat_one (number_form (pos 0) p)
+    → all ≡ three' ++ flat_one (turns_form s p x s.depth body result)
+    → OnOk r ((e : Expansion) → all ≡ flat e → 1 ≡ count_of e → new ≡ old ++ flat (blocked s.depth p e))
+    → OnOk r (new ≡ old ++ flat_one (dotimes_form s p x s.depth (second p (within_first (inside s (Block 0)) (From 0) args)) body result))
+dotimes_written r s o p name x args items rest body result none one two three' all old new opens nil is behind empty begun headed numbered done h =
+    let t : Scope = with_opened s o in
+    let turns : Single = second p (within_first (inside s (Block 0)) (From 0) args) in
+    let same : first p (forms_in t rest) ≡ turns =
+    second-within t p args items rest is behind ∙ ap (λ u. second p (within_first u (From 0) args)) (opens ∙ ap (λ m. inside s (Block m)) nil) in
+    let under : Expansion = in_front turns (in_front (number_form (pos 0) p) (only (turns_form s p x s.depth body result))) in
+    blocked_one r s.depth p (form Let p under) all old new
+    (three_nodes p turns (number_form (pos 0) p) (turns_form s p x s.depth body result) one two three' all (begun ∙ ap (λ ns. ns ++ node (Form Let) p 3 ∷ []) empty) (headed ∙ ap (λ a. one ++ flat_one a) same) numbered done) h
+
+-- what a `dotimes` does behind its number of turns, by the numbers of its variables
+abbrev turns_of : ℕ → (limit done : ℕ) → CoreKind → Expansion → Option Single → Single
+turns_of p limit done kind body result =
+    form (BindLocal limit 1) p (only (form (BindLocal done 0) p
+    (both (form While p (three (more_form p limit done) (turn_form p done kind body) (step_form p done))) (result_form p done kind result))))
+
+-- its nodes in front of its result
+abbrev turns_front : ℕ → (limit done k : ℕ) → CoreKind → List ExpandedNode → List ExpandedNode
+turns_front p limit done k kind body =
+    (node (Form (BindLocal limit 1)) p 1 ∷ []) ++ ((node (Form (BindLocal done 0)) p 2 ∷ []) ++ ((node (Form While) p 3 ∷ [])
+    ++ (flat_one (more_form p limit done) ++ (turn_head p done kind k ++ (body ++ flat_one (step_form p done))))))
+
+-- nothing stands behind the parts of a form
+nothing_behind : (front body step result : List ExpandedNode) → front ++ ((body ++ step) ++ result) ≡ front ++ ((((body ++ []) ++ step) ++ (result ++ [])) ++ [])
+nothing_behind front body step result =
+    ap (λ ns. front ++ ns) (sym (append-nil (((body ++ []) ++ step) ++ (result ++ [])) ∙ ap (λ ns. (ns ++ step) ++ (result ++ [])) (append-nil body)
+    ∙ ap (λ ns. (body ++ step) ++ ns) (append-nil result)))
+
+flat-turns : (p limit done k : ℕ) (kind : CoreKind) (body : Expansion) (result : Option Single) → k ≡ count_of body
+    → turns_front p limit done k kind (flat body) ++ flat_one (result_form p done kind result) ≡ flat_one (turns_of p limit done kind body result)
+flat-turns p limit done k kind body result many =
+    let front : List ExpandedNode =
+    (node (Form (BindLocal limit 1)) p 1 ∷ []) ++ ((node (Form (BindLocal done 0)) p 2 ∷ []) ++ ((node (Form While) p 3 ∷ [])
+    ++ (flat_one (more_form p limit done) ++ turn_head p done kind (count_of body)))) in
+    ap (λ m. turns_front p limit done m kind (flat body) ++ flat_one (result_form p done kind result)) many
+    ∙ nothing_behind front (flat body) (flat_one (step_form p done)) (flat_one (result_form p done kind result))
+
+-- the numbers are those behind the block
+turns-same : (s : Scope) (p x limit done : ℕ) (kind : CoreKind) (body b : Expansion) (result r : Option Single)
+    → limit ≡ suc s.depth → done ≡ suc (suc s.depth) → kind ≡ bind_kind s (suc (suc (suc s.depth))) x 0 → body ≡ b → result ≡ r
+    → flat_one (turns_of p limit done kind body result) ≡ flat_one (turns_form s p x s.depth b r)
+turns-same s p x limit done kind body b result r h i j k l =
+    let last : ℕ = suc (suc s.depth) in
+    let bound : CoreKind = bind_kind s (suc last) x 0 in
+    ap (λ n. flat_one (turns_of p n done kind body result)) h ∙ ap (λ n. flat_one (turns_of p (suc s.depth) n kind body result)) i
+    ∙ ap (λ n. flat_one (turns_of p (suc s.depth) last n body result)) j ∙ ap (λ n. flat_one (turns_of p (suc s.depth) last bound n result)) k
+    ∙ ap (λ n. flat_one (turns_of p (suc s.depth) last bound b n)) l
+
+-- the turns of a `dotimes`
+pub turns_written : {A E : Type 0} (r : Result A E) (s : Scope) (o o' : Opened) (p x limit done k : ℕ) (kind : CoreKind) (args rest body : Data) (old a b c d e f g new : List ExpandedNode)
+    → with_opened s o ≡ in_dotimes s → limit ≡ s.depth + 1 → done ≡ limit + 1 → kind ≡ bind_kind s o.depth x 0 → with_opened s o' ≡ opened_by (with_opened s o) x
+    → rest ≡ behind 1 args → body ≡ body_of s.names rest → k ≡ data_in body
+    → a ≡ old ++ node (Form (BindLocal limit 1)) p 1 ∷ [] → b ≡ a ++ node (Form (BindLocal done 0)) p 2 ∷ [] → c ≡ b ++ node (Form While) p 3 ∷ []
+    → d ≡ c ++ flat_one (more_form p limit done) → e ≡ d ++ turn_head p done kind k → f ≡ e ++ flat (forms_in (with_opened s o') body) → g ≡ f ++ flat_one (step_form p done)
+    → OnOk r (new ≡ g ++ flat_one (result_form p done kind (result_of (within_first (with_opened s o') (From 0) args))))
+    → OnOk r (new ≡ old ++ flat_one (turns_form s p x s.depth (body_in (in_turn s x) 1 args) (result_of (within_first (in_turn s x) (From 0) args))))
+turns_written r s o o' p x limit done k kind args rest body old a b c d e f g new opens one two same inner behind begins many ha hb hc hd he hf hg h =
+    let u : Scope = with_opened s o' in
+    let fs : Expansion = forms_in u body in
+    let now : u ≡ in_turn s x = inner ∙ ap (λ t. opened_by t x) opens in
+    let under : fs ≡ body_in (in_turn s x) 1 args =
+    ap (forms_in u) (begins ∙ ap (body_of s.names) behind) ∙ sym (body-forms u 1 args) ∙ ap (λ t. body_in t 1 args) now in
+    let result : Option Single = result_of (within_first u (From 0) args) in
+    let limit' : limit ≡ suc s.depth = one ∙ add-one s.depth in
+    let done' : done ≡ suc (suc s.depth) = two ∙ add-one limit ∙ ap suc limit' in
+    let kind' : kind ≡ bind_kind s (suc (suc (suc s.depth))) x 0 = same ∙ ap (λ t. bind_kind s t.depth x 0) opens in
+    let front : g ≡ old ++ turns_front p limit done k kind (flat fs) =
+    two_steps old a g _ _ ha (two_steps a b g _ _ hb (two_steps b c g _ _ hc (two_steps c d g _ _ hd (two_steps d e g _ _ he (two_steps e f g _ _ hf hg))))) in
+    last_step r old g new (turns_front p limit done k kind (flat fs)) (flat_one (result_form p done kind result)) _ front
+    (flat-turns p limit done k kind fs result (many ∙ sym (count-forms u body))
+    ∙ turns-same s p x limit done kind fs _ result _ limit' done' kind' under (ap (λ t. result_of (within_first t (From 0) args)) now)) h

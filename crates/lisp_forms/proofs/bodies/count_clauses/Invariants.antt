@@ -1,0 +1,17 @@
+use Rattle.std.proofs.Common.{◌≡◌, ℕ, ◌+◌, ◌≤◌}
+use Rattle.lisp_base.specs.Forest.{count_of}
+use Rattle.lisp_reader.specs.Data.{count_of as data_in}
+use Rattle.lisp_forms.specs.Expansion.{clauses_in}
+use Rattle.lisp_forms.specs.Scopes.{Scope}
+use Rattle.lisp_forms.specs.Sizes.{size_of}
+use Rattle.lisp_forms.proofs.bodies.count_clauses.Given as goal
+
+-- those so far, with those of what is left, are all
+abbrev pub invariant-loop-first : goal.invariant-loop-first
+invariant-loop-first l = record {
+  few : l.count + data_in l.left ≤ data_in l.clauses;
+  all : (s : Scope) (place : ℕ) → l.count + count_of (clauses_in s place l.left) ≡ count_of (clauses_in s place l.clauses);
+}
+
+abbrev pub decreases-loop-first : goal.decreases-loop-first
+decreases-loop-first l = size_of l.left

@@ -1,5 +1,0 @@
-use Rattle.lisp_forms.proofs.Repeated.{repeated_more}
-use Rattle.lisp_forms.proofs.expand.push_sums.Goals as goal
-
-pub loop-done-preserved : goal.loop-done-preserved
-loop-done-preserved c = repeated_more _ _ _ _ _ c.loop-done.invariant c.in_ok-push_node.ensures

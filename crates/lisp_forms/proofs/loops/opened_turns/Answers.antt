@@ -1,0 +1,11 @@
+use Rattle.std.proofs.Common.{◌∙◌, ap}
+use Rattle.lisp_forms.specs.Contexts.{scope_at}
+use Rattle.lisp_forms.specs.Scopes.{Scope, deeper, inside}
+use Rattle.lisp_forms.specs.declared.levels.Level.TheVariants.{Block}
+use Rattle.lisp_forms.proofs.loops.opened_turns.Goals as goal
+
+pub returns : goal.returns
+returns c =
+    let s : Scope = scope_at c.args.base.now c.args.levels.now c.args.depth in
+    c.in_ok-deepen-2.ensures s
+    ∙ ap deeper (c.in_ok-deepen.ensures s ∙ ap deeper (c.in_ok-open.ensures ∙ ap (λ x. inside s (Block x)) c.nil.ensures))

@@ -1,0 +1,8 @@
+use Rattle.std.proofs.Common.{◌≡◌, ◌++◌}
+use Rattle.lisp_forms.specs.declared.expanded.Expanded.TheVariants.{Form}
+use Rattle.lisp_forms.specs.Flat.{node, repeated}
+use Rattle.lisp_forms.proofs.nodes.push_forms.Given as goal
+
+-- so many are written
+abbrev pub invariant-loop-done : goal.invariant-loop-done
+invariant-loop-done l = l.nodes.items ≡ l.fn.nodes.items ++ repeated l._done (node (Form l.kind) l.place l.parts)

@@ -1,0 +1,231 @@
+ghost use Rattle.std.specs.Prelude.{◌≡◌, ◌++◌, ◌<◌, ◌^◌, IfOk, OnOk, Some, length};
+ghost use Rattle.lisp_forms.specs.Bindings.{bound_in, opened as opened_of};
+ghost use Rattle.lisp_forms.specs.Contexts.{scope_at};
+ghost use Rattle.lisp_forms.specs.Expansion.{body_in, turn_first, values_first, values_in};
+ghost use Rattle.lisp_forms.specs.Flat.{flat, flat_one};
+ghost use Rattle.lisp_forms.specs.Written.{bind_nodes, forms_under, number_behind, turn_nodes, turn_parts};
+ghost use Rattle.lisp_forms.specs.One.{bound_value, let_variables};
+ghost use Rattle.lisp_forms.specs.Rows.{bind_kind as bind_kind_of, let_form, let_star_form};
+ghost use Rattle.lisp_forms.specs.Scopes.{Scope};
+
+use crate::bindings::{body_of, items_first, open_variable, variables_in};
+use crate::expand::{push_all, push_head};
+use crate::expanded::ExpandedNode;
+use crate::levels::{Levels, next};
+use crate::nodes::{push_form, push_nil};
+use crate::scope::{Base, has};
+use crate::single::rest;
+use crate::within::{open_within, opened_within};
+use lisp_base::id::{Place, SymbolId};
+use lisp_base::memory::Memory;
+use lisp_program::form::CoreKind;
+use lisp_reader::items::{First, Items};
+use std::alloc::Global;
+
+/// Writes a `let` with these arguments.
+#[cycle(forms)]
+pub fn push_let(
+    alloc: Global,
+    base: &Base,
+    levels: &Levels,
+    depth: u32,
+    place: Place,
+    arguments: Items,
+    nodes: &mut Vec<ExpandedNode>,
+) -> Result<(), Memory>
+    ensures { OnOk result (nodes.new.items ≡ nodes.old.items ++ flat_one (let_form (scope_at base.now levels.now depth) place (let_variables arguments.entry) (values_first (scope_at base.now levels.now depth) arguments.entry) (body_in (opened_of (scope_at base.now levels.now depth) (let_variables arguments.entry)) 1 arguments.entry))) }
+{
+    let variables = variables_in(alloc, &arguments)?;
+    let open = opened_within(alloc, base, levels, depth, variables.as_slice())?;
+    let body = body_of(base.symbols, rest(&arguments, 1));
+    if variables.is_empty() {
+        push_form(CoreKind::Progn, place, body.count(), nodes)?;
+        return push_all(alloc, base, &open.levels, open.depth, body, nodes);
+    }
+    let bindings = items_first(&arguments);
+    // The law that they are few.
+    bindings.are_few();
+    push_form(CoreKind::Let, place, bindings.count() + 1, nodes)?;
+    push_values(alloc, base, levels, depth, bindings, nodes)?;
+    push_binds(
+        base,
+        levels,
+        depth,
+        place,
+        variables.as_slice(),
+        body.count(),
+        nodes,
+    )?;
+    push_all(alloc, base, &open.levels, open.depth, body, nodes)
+}
+
+/// Writes the values of these bindings.
+#[cycle(forms)]
+fn push_values(
+    alloc: Global,
+    base: &Base,
+    levels: &Levels,
+    depth: u32,
+    bindings: Items,
+    nodes: &mut Vec<ExpandedNode>,
+) -> Result<(), Memory>
+    ensures { OnOk result (nodes.new.items ≡ nodes.old.items ++ flat (values_in (scope_at base.now levels.now depth) bindings.entry)) }
+{
+    let mut left = bindings;
+    while let Some((first, others)) = left.split_first() {
+        push_bound(alloc, base, levels, depth, first, nodes)?;
+        left = others;
+    }
+    Ok(())
+}
+
+/// Writes the value of a binding.
+#[cycle(forms)]
+fn push_bound(
+    alloc: Global,
+    base: &Base,
+    levels: &Levels,
+    depth: u32,
+    first: First,
+    nodes: &mut Vec<ExpandedNode>,
+) -> Result<(), Memory>
+    ensures { OnOk result (nodes.new.items ≡ nodes.old.items ++ flat_one (bound_value (scope_at base.now levels.now depth) first.entry)) }
+{
+    match first {
+        First::Leaf(_, place) => push_nil(place, nodes),
+        First::List(place, under) => push_head(
+            alloc,
+            base,
+            levels,
+            depth,
+            place,
+            rest(&under, 1),
+            nodes,
+        ),
+    }
+}
+
+/// The kind of form that binds a variable, where so many are open, to the value that has so many in front.
+pub fn bind_kind(specials: &[SymbolId], depth: u32, variable: SymbolId, above: u32) -> CoreKind
+    ensures { (s : Scope) → specials.now ≡ s.specials → result ≡ bind_kind_of s depth variable above }
+{
+    if has(specials, variable) {
+        CoreKind::BindSpecial(variable, above)
+    } else {
+        CoreKind::BindLocal(depth, above)
+    }
+}
+
+/// Writes the bindings of these variables, one in another, the last with `body` forms under it.
+fn push_binds(
+    base: &Base,
+    levels: &Levels,
+    depth: u32,
+    place: Place,
+    variables: &[SymbolId],
+    body: u32,
+    nodes: &mut Vec<ExpandedNode>,
+) -> Result<(), Memory>
+    requires { length variables.now < 2 ^ 30 }
+    ensures { OnOk result (nodes.new.items ≡ nodes.old.items ++ bind_nodes (scope_at base.now levels.now depth) place body variables.now) }
+{
+    let mut number = depth;
+    for (index, variable) in variables.iter().enumerate() {
+        let above = (variables.len() - 1 - index) as u32;
+        let kind = bind_kind(base.specials, number, *variable, above);
+        push_form(kind, place, forms_under(above, body), nodes)?;
+        number = number_behind(base.specials, number, *variable)?;
+    }
+    Ok(())
+}
+
+/// How many forms are under a binding with so many others under it, the last of which has this many.
+fn forms_under(above: u32, forms: u32) -> u32
+    ensures { result ≡ forms_under above forms }
+{
+    if above == 0 { forms } else { 1 }
+}
+
+/// The number behind a variable, which has this one: a special one has none.
+fn number_behind(specials: &[SymbolId], number: u32, variable: SymbolId) -> Result<u32, Memory>
+    ensures { IfOk result (λ behind. behind ≡ number_behind specials.now number variable) }
+{
+    if has(specials, variable) {
+        return Ok(number);
+    }
+    next(number)
+}
+
+/// Writes a `let*` with these arguments.
+#[cycle(forms)]
+pub fn push_let_star(
+    alloc: Global,
+    base: &Base,
+    levels: &Levels,
+    depth: u32,
+    place: Place,
+    arguments: Items,
+    nodes: &mut Vec<ExpandedNode>,
+) -> Result<(), Memory>
+    ensures { OnOk result (nodes.new.items ≡ nodes.old.items ++ flat_one (let_star_form (scope_at base.now levels.now depth) place (let_variables arguments.entry) (turn_first (scope_at base.now levels.now depth) arguments.entry) (body_in (opened_of (scope_at base.now levels.now depth) (let_variables arguments.entry)) 1 arguments.entry))) }
+{
+    let variables = variables_in(alloc, &arguments)?;
+    let open = opened_within(alloc, base, levels, depth, variables.as_slice())?;
+    let body = body_of(base.symbols, rest(&arguments, 1));
+    if variables.is_empty() {
+        push_form(CoreKind::Progn, place, body.count(), nodes)?;
+        return push_all(alloc, base, &open.levels, open.depth, body, nodes);
+    }
+    let bindings = items_first(&arguments);
+    push_turns(
+        alloc,
+        base,
+        levels,
+        depth,
+        place,
+        variables.as_slice(),
+        bindings,
+        body.count(),
+        nodes,
+    )?;
+    push_all(alloc, base, &open.levels, open.depth, body, nodes)
+}
+
+/// Writes what a `let*` of these variables with these bindings has in front of its body, which has so many forms.
+#[cycle(forms)]
+fn push_turns(
+    alloc: Global,
+    base: &Base,
+    levels: &Levels,
+    depth: u32,
+    place: Place,
+    variables: &[SymbolId],
+    bindings: Items,
+    body: u32,
+    nodes: &mut Vec<ExpandedNode>,
+) -> Result<(), Memory>
+    ensures { OnOk result (bound_in bindings.entry ≡ Some variables.now → nodes.new.items ≡ nodes.old.items ++ turn_nodes (scope_at base.now levels.now depth) place body bindings.entry) }
+{
+    let mut open = open_within(alloc, base, levels, depth)?;
+    let mut left = bindings;
+    for variable in variables {
+        let Some((first, others)) = left.split_first() else {
+            return Ok(());
+        };
+        push_form(CoreKind::Let, place, 2, nodes)?;
+        push_bound(alloc, base, &open.levels, open.depth, first, nodes)?;
+        let kind = bind_kind(base.specials, open.depth, *variable, 0);
+        push_form(kind, place, turn_parts(&others, body), nodes)?;
+        open_variable(base.specials, *variable, &mut open)?;
+        left = others;
+    }
+    Ok(())
+}
+
+/// How many forms are under a binding of a `let*` with these others behind it, where its body has so many.
+#[tactic(auto, using(crate::proofs::Nesting::parts_of_last, crate::proofs::Nesting::parts_of_other))]
+fn turn_parts(others: &Items, body: u32) -> u32
+    ensures { result ≡ turn_parts others.now body }
+{
+    if others.count() == 0 { body } else { 1 }
+}

@@ -1,0 +1,252 @@
+ghost use Rattle.std.specs.Prelude.{◌≡◌, ◌++◌, IfOk, OnOk};
+ghost use Rattle.lisp_forms.specs.Contexts.{scope_at};
+ghost use Rattle.lisp_forms.specs.Expansion.{body_in, forms_in, in_lock, within_first};
+ghost use Rattle.lisp_forms.specs.Flat.{flat_one};
+ghost use Rattle.lisp_forms.specs.Rows;
+ghost use Rattle.lisp_forms.specs.Scopes.{deeper};
+ghost use Rattle.lisp_forms.specs.Trees.{first as first_of, others};
+ghost use Rattle.lisp_forms.specs.Written.{either_nodes, grab_nodes, lock_of, locked_nodes, region_nodes};
+
+use crate::bindings::{body_of, items_first};
+use crate::expand::{push_all, push_by_roles, push_head};
+use crate::expanded::{Expanded, ExpandedNode};
+use crate::keywords::{Roles, parts_of};
+use crate::levels::{Levels, next};
+use crate::nodes::{push_form, push_local, push_nil, push_node};
+use crate::rows::push_progn;
+use crate::scope::Base;
+use crate::single::rest;
+use lisp_base::condition::{Class, Condition};
+use lisp_base::id::{Place, SymbolId};
+use lisp_base::memory::Memory;
+use lisp_base::value::Value;
+use lisp_program::form::CoreKind;
+use lisp_program::function::Service;
+use lisp_reader::items::Items;
+use std::alloc::Global;
+
+/// The numbers of the hidden variables of a lock, and of what its region remembers.
+#[derive(Clone, Copy, Debug, PartialEq, Eq)]
+struct Lock {
+    mutex: u32,
+    grabbed: u32,
+    region: u32,
+    inside: u32,
+}
+
+/// Those of a lock where so many are open.
+fn lock_at(depth: u32) -> Result<Lock, Memory>
+    ensures { IfOk result (λ lock. lock ≡ lock_of depth) }
+{
+    let grabbed = next(depth)?;
+    let region = next(grabbed)?;
+    let inside = next(region)?;
+    Ok(Lock {
+        mutex: depth,
+        grabbed,
+        region,
+        inside,
+    })
+}
+
+/// Writes what binds the hidden variables of a lock and begins its region, behind the mutex.
+fn push_region(lock: &Lock, place: Place, nodes: &mut Vec<ExpandedNode>) -> Result<(), Memory>
+    ensures { OnOk result (nodes.new.items ≡ nodes.old.items ++ region_nodes lock.now place) }
+{
+    push_nil(place, nodes)?;
+    push_form(CoreKind::BindLocal(lock.mutex, 1), place, 1, nodes)?;
+    push_form(CoreKind::BindLocal(lock.grabbed, 0), place, 1, nodes)?;
+    push_form(CoreKind::WithoutInterrupts(lock.region), place, 1, nodes)?;
+    push_form(CoreKind::UnwindProtect, place, 2, nodes)?;
+    push_form(CoreKind::If, place, 3, nodes)
+}
+
+/// Writes what grabs the mutex of a lock, in front of its operands, of which there are so many behind the mutex.
+fn push_grab(
+    lock: &Lock,
+    waitp: bool,
+    timeout: bool,
+    operands: u32,
+    place: Place,
+    nodes: &mut Vec<ExpandedNode>,
+) -> Result<(), Memory>
+    ensures { OnOk result (nodes.new.items ≡ nodes.old.items ++ grab_nodes lock.now waitp timeout operands place) }
+{
+    let service = Service::GrabMutex { waitp, timeout };
+    push_form(CoreKind::SetLocal(lock.grabbed), place, 1, nodes)?;
+    push_form(CoreKind::AllowWithInterrupts(lock.region), place, 1, nodes)?;
+    push_form(CoreKind::Serve(service), place, operands, nodes)?;
+    push_local(lock.mutex, place, nodes)
+}
+
+/// Writes what a lock does where it has the mutex: this body, with interruptions where they were allowed; and behind that its cleanup.
+#[cycle(forms)]
+fn push_locked_body(
+    alloc: Global,
+    base: &Base,
+    levels: &Levels,
+    depth: u32,
+    lock: &Lock,
+    place: Place,
+    body: Items,
+    nodes: &mut Vec<ExpandedNode>,
+) -> Result<(), Memory>
+    ensures { OnOk result (nodes.new.items ≡ nodes.old.items ++ locked_nodes lock.now place (forms_in (scope_at base.now levels.now depth) body.entry)) }
+{
+    push_form(CoreKind::Progn, place, 1, nodes)?;
+    push_form(CoreKind::AllowWithInterrupts(lock.region), place, 1, nodes)?;
+    push_form(CoreKind::WithInterrupts, place, body.count(), nodes)?;
+    push_all(alloc, base, levels, depth, body, nodes)?;
+    push_nil(place, nodes)?;
+    push_release(lock, place, nodes)
+}
+
+/// Writes the cleanup of a lock: the mutex is released where it was grabbed.
+fn push_release(lock: &Lock, place: Place, nodes: &mut Vec<ExpandedNode>) -> Result<(), Memory>
+    ensures { OnOk result (nodes.new.items ≡ nodes.old.items ++ flat_one (Rows.release_form lock.now.mutex lock.now.grabbed place)) }
+{
+    let service = Service::ReleaseMutex { if_not_owner: true };
+    push_form(CoreKind::If, place, 3, nodes)?;
+    push_local(lock.grabbed, place, nodes)?;
+    push_form(CoreKind::Progn, place, 1, nodes)?;
+    push_form(CoreKind::Serve(service), place, 2, nodes)?;
+    push_local(lock.mutex, place, nodes)?;
+    push_form(
+        CoreKind::Constant(Value::symbol(SymbolId(3))),
+        place,
+        0,
+        nodes,
+    )?;
+    push_nil(place, nodes)
+}
+
+/// Writes a `with-mutex` with these arguments, of which these are written.
+#[cycle(forms)]
+pub fn push_mutex(
+    alloc: Global,
+    base: &Base,
+    levels: &Levels,
+    depth: u32,
+    waitp: bool,
+    timeout: bool,
+    place: Place,
+    arguments: Items,
+    nodes: &mut Vec<ExpandedNode>,
+) -> Result<(), Memory>
+    ensures { OnOk result (nodes.new.items ≡ nodes.old.items ++ flat_one (Rows.mutex_form (scope_at base.now levels.now depth).depth place waitp timeout (first_of place (within_first (scope_at base.now levels.now depth) (Roles.From 0) arguments.entry)) (within_first (in_lock (scope_at base.now levels.now depth)) (Roles.Values 1) arguments.entry) (body_in (in_lock (scope_at base.now levels.now depth)) 1 arguments.entry))) }
+{
+    let lock = lock_at(depth)?;
+    let items = items_first(&arguments);
+    let operands = items_first(&arguments);
+    // The law that they are few.
+    operands.are_few();
+    let count = parts_of(Roles::Values(1), operands.count()) + 1;
+    push_form(CoreKind::Let, place, 3, nodes)?;
+    push_head(alloc, base, levels, depth, place, items, nodes)?;
+    push_region(&lock, place, nodes)?;
+    push_grab(&lock, waitp, timeout, count, place, nodes)?;
+    push_by_roles(
+        alloc,
+        base,
+        levels,
+        lock.inside,
+        Roles::Values(1),
+        operands,
+        nodes,
+    )?;
+    let body = body_of(base.symbols, rest(&arguments, 1));
+    push_locked_body(alloc, base, levels, lock.inside, &lock, place, body, nodes)
+}
+
+/// Writes a `with-recursive-lock` with these arguments.
+#[cycle(forms)]
+pub fn push_lock(
+    alloc: Global,
+    base: &Base,
+    levels: &Levels,
+    depth: u32,
+    place: Place,
+    arguments: Items,
+    nodes: &mut Vec<ExpandedNode>,
+) -> Result<(), Memory>
+    ensures { OnOk result (nodes.new.items ≡ nodes.old.items ++ flat_one (Rows.lock_form (scope_at base.now levels.now depth).depth place (first_of place (within_first (scope_at base.now levels.now depth) (Roles.From 0) arguments.entry)) (body_in (in_lock (scope_at base.now levels.now depth)) 1 arguments.entry))) }
+{
+    let lock = lock_at(depth)?;
+    push_form(CoreKind::Let, place, 3, nodes)?;
+    push_head(
+        alloc,
+        base,
+        levels,
+        depth,
+        place,
+        items_first(&arguments),
+        nodes,
+    )?;
+    push_region(&lock, place, nodes)?;
+    push_held(&lock, place, nodes)?;
+    push_grab(&lock, false, false, 1, place, nodes)?;
+    let body = body_of(base.symbols, rest(&arguments, 1));
+    push_locked_body(alloc, base, levels, lock.inside, &lock, place, body, nodes)
+}
+
+/// Writes whether the thread has the mutex already, in front of what grabs it where it has not.
+fn push_held(lock: &Lock, place: Place, nodes: &mut Vec<ExpandedNode>) -> Result<(), Memory>
+    ensures { OnOk result (nodes.new.items ≡ nodes.old.items ++ either_nodes lock.now.inside place (Rows.held_form lock.now.mutex place)) }
+{
+    push_form(CoreKind::Let, place, 2, nodes)?;
+    push_form(CoreKind::Serve(Service::HoldingMutex), place, 1, nodes)?;
+    push_local(lock.mutex, place, nodes)?;
+    push_form(CoreKind::BindLocal(lock.inside, 0), place, 1, nodes)?;
+    push_form(CoreKind::If, place, 3, nodes)?;
+    push_local(lock.inside, place, nodes)?;
+    push_local(lock.inside, place, nodes)
+}
+
+/// Writes the timer of a `with-timeout`, whose function signals `timeout`.
+fn push_timer(place: Place, nodes: &mut Vec<ExpandedNode>) -> Result<(), Memory>
+    ensures { OnOk result (nodes.new.items ≡ nodes.old.items ++ flat_one (Rows.timer_form place)) }
+{
+    let service = Service::MakeTimer {
+        name: false,
+        thread: false,
+    };
+    let condition = Condition {
+        class: Class::Timeout,
+        text: None,
+    };
+    push_form(CoreKind::Serve(service), place, 1, nodes)?;
+    push_node(Expanded::Lambda(0), place, 1, nodes)?;
+    push_form(CoreKind::Signal(condition), place, 0, nodes)
+}
+
+/// Writes a `with-timeout` with these arguments.
+#[cycle(forms)]
+pub fn push_timeout(
+    alloc: Global,
+    base: &Base,
+    levels: &Levels,
+    depth: u32,
+    place: Place,
+    arguments: Items,
+    nodes: &mut Vec<ExpandedNode>,
+) -> Result<(), Memory>
+    ensures { OnOk result (nodes.new.items ≡ nodes.old.items ++ flat_one (Rows.timeout_form (scope_at base.now levels.now depth).depth place (first_of place (forms_in (deeper (scope_at base.now levels.now depth)) arguments.entry)) (others (forms_in (deeper (scope_at base.now levels.now depth)) arguments.entry)))) }
+{
+    let timer = depth;
+    let inner = next(timer)?;
+    let body = rest(&arguments, 1);
+    let service = Service::ScheduleTimer {
+        repeat_interval: false,
+        catch_up: false,
+    };
+    push_form(CoreKind::Let, place, 2, nodes)?;
+    push_timer(place, nodes)?;
+    push_form(CoreKind::BindLocal(timer, 0), place, 2, nodes)?;
+    push_form(CoreKind::Serve(service), place, 2, nodes)?;
+    push_local(timer, place, nodes)?;
+    push_head(alloc, base, levels, inner, place, arguments, nodes)?;
+    push_form(CoreKind::UnwindProtect, place, 2, nodes)?;
+    push_progn(alloc, base, levels, inner, place, body, nodes)?;
+    push_form(CoreKind::Serve(Service::UnscheduleTimer), place, 1, nodes)?;
+    push_local(timer, place, nodes)
+}

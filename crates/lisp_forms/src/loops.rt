@@ -1,0 +1,196 @@
+ghost use Rattle.std.specs.Prelude.{◌≡◌, ◌++◌, IfOk, OnOk};
+ghost use Rattle.lisp_forms.specs.Contexts.{scope_at, with_opened};
+ghost use Rattle.lisp_forms.specs.Expansion.{body_in, in_dotimes, in_turn, result_of, within_first};
+ghost use Rattle.lisp_forms.specs.Flat.{flat_one};
+ghost use Rattle.lisp_forms.specs.Rows;
+ghost use Rattle.lisp_forms.specs.Scopes.{inside as inside_of};
+ghost use Rattle.lisp_forms.specs.Trees.{second};
+ghost use Rattle.lisp_forms.specs.Written.{turn_head};
+
+use crate::bindings::{body_of, items_first, open_variable};
+use crate::blocks::push_blocked;
+use crate::expand::{push_all, push_head};
+use crate::expanded::ExpandedNode;
+use crate::keywords::Roles;
+use crate::lets::bind_kind;
+use crate::levels::{Level, Levels, next};
+use crate::nodes::{push_form, push_local, push_nil, push_number, push_true};
+use crate::scope::{Base, Opened};
+use crate::single::rest;
+use crate::within::level_within;
+use lisp_base::id::{Place, SymbolId};
+use lisp_base::memory::Memory;
+use lisp_program::form::CoreKind;
+use lisp_program::function::Primitive;
+use lisp_reader::items::Items;
+use std::alloc::Global;
+
+/// Writes a `loop` of these.
+#[cycle(forms)]
+pub fn push_loop(
+    alloc: Global,
+    base: &Base,
+    levels: &Levels,
+    depth: u32,
+    place: Place,
+    arguments: Items,
+    nodes: &mut Vec<ExpandedNode>,
+) -> Result<(), Memory>
+    ensures { OnOk result (nodes.new.items ≡ nodes.old.items ++ flat_one (Rows.loop_form (scope_at base.now levels.now depth).depth place (body_in (inside_of (scope_at base.now levels.now depth) (Level.Block 0)) 0 arguments.entry))) }
+{
+    let open = level_within(alloc, base, levels, depth, Level::Block(SymbolId::nil()))?;
+    let body = body_of(base.symbols, arguments);
+    // The law that they are few.
+    body.are_few();
+    let mut turns = Vec::new(alloc);
+    push_form(CoreKind::While, place, body.count() + 1, &mut turns)?;
+    push_true(place, &mut turns)?;
+    push_all(alloc, base, &open.levels, open.depth, body, &mut turns)?;
+    push_blocked(depth, place, 1, turns.as_slice(), nodes)
+}
+
+/// What is open in a `dotimes`: its block, and two variables that no program can name.
+fn opened_turns(alloc: Global, base: &Base, levels: &Levels, depth: u32) -> Result<Opened, Memory>
+    ensures { IfOk result (λ opened. with_opened (scope_at base.now levels.now depth) opened ≡ in_dotimes (scope_at base.now levels.now depth)) }
+{
+    let mut open = level_within(alloc, base, levels, depth, Level::Block(SymbolId::nil()))?;
+    open.deepen()?;
+    open.deepen()?;
+    Ok(open)
+}
+
+/// Writes a `dotimes` of this variable with these arguments.
+#[cycle(forms)]
+pub fn push_dotimes(
+    alloc: Global,
+    base: &Base,
+    levels: &Levels,
+    depth: u32,
+    variable: SymbolId,
+    place: Place,
+    arguments: Items,
+    nodes: &mut Vec<ExpandedNode>,
+) -> Result<(), Memory>
+    ensures { OnOk result (nodes.new.items ≡ nodes.old.items ++ flat_one (Rows.dotimes_form (scope_at base.now levels.now depth) place variable (scope_at base.now levels.now depth).depth (second place (within_first (inside_of (scope_at base.now levels.now depth) (Level.Block 0)) (Roles.From 0) arguments.entry)) (body_in (in_turn (scope_at base.now levels.now depth) variable) 1 arguments.entry) (result_of (within_first (in_turn (scope_at base.now levels.now depth) variable) (Roles.From 0) arguments.entry)))) }
+{
+    let block = level_within(alloc, base, levels, depth, Level::Block(SymbolId::nil()))?;
+    let items = items_first(&arguments);
+    let mut all = Vec::new(alloc);
+    push_form(CoreKind::Let, place, 3, &mut all)?;
+    push_head(
+        alloc,
+        base,
+        &block.levels,
+        block.depth,
+        place,
+        rest(&items, 1),
+        &mut all,
+    )?;
+    push_number(0, place, &mut all)?;
+    push_turns(
+        alloc, base, levels, depth, variable, place, arguments, &mut all,
+    )?;
+    push_blocked(depth, place, 1, all.as_slice(), nodes)
+}
+
+/// Writes what a `dotimes` does behind its number of turns.
+#[cycle(forms)]
+fn push_turns(
+    alloc: Global,
+    base: &Base,
+    levels: &Levels,
+    depth: u32,
+    variable: SymbolId,
+    place: Place,
+    arguments: Items,
+    nodes: &mut Vec<ExpandedNode>,
+) -> Result<(), Memory>
+    ensures { OnOk result (nodes.new.items ≡ nodes.old.items ++ flat_one (Rows.turns_form (scope_at base.now levels.now depth) place variable (scope_at base.now levels.now depth).depth (body_in (in_turn (scope_at base.now levels.now depth) variable) 1 arguments.entry) (result_of (within_first (in_turn (scope_at base.now levels.now depth) variable) (Roles.From 0) arguments.entry)))) }
+{
+    let mut open = opened_turns(alloc, base, levels, depth)?;
+    let limit = next(depth)?;
+    let done = next(limit)?;
+    let kind = bind_kind(base.specials, open.depth, variable, 0);
+    open_variable(base.specials, variable, &mut open)?;
+    let body = body_of(base.symbols, rest(&arguments, 1));
+    push_form(CoreKind::BindLocal(limit, 1), place, 1, nodes)?;
+    push_form(CoreKind::BindLocal(done, 0), place, 2, nodes)?;
+    push_form(CoreKind::While, place, 3, nodes)?;
+    push_more(limit, done, place, nodes)?;
+    push_bound_turn(done, &kind, place, body.count(), nodes)?;
+    push_all(alloc, base, &open.levels, open.depth, body, nodes)?;
+    push_step(done, place, nodes)?;
+    push_result(
+        alloc,
+        base,
+        &open.levels,
+        open.depth,
+        done,
+        &kind,
+        place,
+        arguments,
+        nodes,
+    )
+}
+
+/// Writes whether there are more turns.
+fn push_more(
+    limit: u32,
+    done: u32,
+    place: Place,
+    nodes: &mut Vec<ExpandedNode>,
+) -> Result<(), Memory>
+    ensures { OnOk result (nodes.new.items ≡ nodes.old.items ++ flat_one (Rows.more_form place limit done)) }
+{
+    push_form(CoreKind::Apply(Primitive::Less), place, 2, nodes)?;
+    push_local(done, place, nodes)?;
+    push_local(limit, place, nodes)
+}
+
+/// Writes that one more turn is done.
+fn push_step(done: u32, place: Place, nodes: &mut Vec<ExpandedNode>) -> Result<(), Memory>
+    ensures { OnOk result (nodes.new.items ≡ nodes.old.items ++ flat_one (Rows.step_form place done)) }
+{
+    push_form(CoreKind::SetLocal(done), place, 1, nodes)?;
+    push_form(CoreKind::Apply(Primitive::Add), place, 2, nodes)?;
+    push_local(done, place, nodes)?;
+    push_number(1, place, nodes)
+}
+
+/// Writes what binds the variable of a `dotimes`, by this kind of form, round a body of so many forms.
+fn push_bound_turn(
+    done: u32,
+    kind: &CoreKind,
+    place: Place,
+    body: u32,
+    nodes: &mut Vec<ExpandedNode>,
+) -> Result<(), Memory>
+    ensures { OnOk result (nodes.new.items ≡ nodes.old.items ++ turn_head place done kind.now body) }
+{
+    push_form(CoreKind::Let, place, 2, nodes)?;
+    push_local(done, place, nodes)?;
+    push_form(*kind, place, body, nodes)
+}
+
+/// Writes the result of a `dotimes` with these arguments, whose variable is bound by this kind of form.
+#[cycle(forms)]
+fn push_result(
+    alloc: Global,
+    base: &Base,
+    levels: &Levels,
+    depth: u32,
+    done: u32,
+    kind: &CoreKind,
+    place: Place,
+    arguments: Items,
+    nodes: &mut Vec<ExpandedNode>,
+) -> Result<(), Memory>
+    ensures { OnOk result (nodes.new.items ≡ nodes.old.items ++ flat_one (Rows.result_form place done kind.now (result_of (within_first (scope_at base.now levels.now depth) (Roles.From 0) arguments.entry)))) }
+{
+    let left = rest(&items_first(&arguments), 2);
+    if left.count() == 0 {
+        return push_nil(place, nodes);
+    }
+    push_bound_turn(done, kind, place, 1, nodes)?;
+    push_head(alloc, base, levels, depth, place, left, nodes)
+}

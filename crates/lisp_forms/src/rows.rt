@@ -1,0 +1,499 @@
+ghost use Rattle.std.specs.Prelude.{◌≡◌, ◌++◌, ℕ, OnOk};
+ghost use Rattle.lisp_base.specs.Forest.{count_of, joined};
+ghost use Rattle.lisp_forms.specs.Contexts.{scope_at};
+ghost use Rattle.lisp_forms.specs.Expansion.{body_in, by_roles, conds_in, forms_in, ors_in, pairs_in, target_in};
+ghost use Rattle.lisp_forms.specs.Flat.{flat, flat_one};
+ghost use Rattle.lisp_forms.specs.Written.{clause_nodes, either_nodes};
+ghost use Rattle.lisp_forms.specs.One.{first_form, place_by as place_of, symbol_by as symbol_of};
+ghost use Rattle.lisp_forms.specs.Rows;
+ghost use Rattle.lisp_forms.specs.Scopes.{Scope, deeper};
+ghost use Rattle.lisp_forms.specs.Trees.{first as first_of, form, nil_form, only, progn_form};
+
+use crate::bindings::body_of;
+use crate::expand::{push_all, push_by_roles, push_first, push_head};
+use crate::expanded::{Expanded, ExpandedNode};
+use crate::keywords::{Roles, parts_of};
+use crate::levels::{Levels, next};
+use crate::nodes::{
+    push_form, push_forms, push_local, push_nil, push_node, push_number, push_true,
+};
+use crate::refusal::UNKNOWN_VARIABLE;
+use crate::scope::{Base, Target, read_kind, set_kind};
+use crate::single::{is_list, place_by, rest};
+use crate::within::target_within;
+use lisp_base::condition::Class;
+use lisp_base::id::{FunctionName, Place};
+use lisp_base::memory::Memory;
+use lisp_base::value::Value;
+use lisp_program::form::CoreKind;
+use lisp_program::function::{Primitive, Service};
+use lisp_reader::items::{First, Items};
+use std::alloc::Global;
+
+/// Writes a form of this kind with these under it, by what they are for, and NIL behind them.
+#[cycle(forms)]
+pub fn push_over_nil(
+    alloc: Global,
+    base: &Base,
+    levels: &Levels,
+    depth: u32,
+    kind: CoreKind,
+    roles: Roles,
+    place: Place,
+    arguments: Items,
+    nodes: &mut Vec<ExpandedNode>,
+) -> Result<(), Memory>
+    ensures { OnOk result (nodes.new.items ≡ nodes.old.items ++ flat_one (form kind place (joined (by_roles (scope_at base.now levels.now depth) roles 0 arguments.entry) (only (nil_form place))))) }
+{
+    // The law that they are few.
+    arguments.are_few();
+    let parts = parts_of(roles, arguments.count()) + 1;
+    push_form(kind, place, parts, nodes)?;
+    push_by_roles(alloc, base, levels, depth, roles, arguments, nodes)?;
+    push_nil(place, nodes)
+}
+
+/// Writes these as one form.
+#[cycle(forms)]
+pub fn push_progn(
+    alloc: Global,
+    base: &Base,
+    levels: &Levels,
+    depth: u32,
+    place: Place,
+    items: Items,
+    nodes: &mut Vec<ExpandedNode>,
+) -> Result<(), Memory>
+    ensures { OnOk result (nodes.new.items ≡ nodes.old.items ++ flat_one (progn_form place (forms_in (scope_at base.now levels.now depth) items.entry))) }
+{
+    push_form(CoreKind::Progn, place, items.count(), nodes)?;
+    push_all(alloc, base, levels, depth, items, nodes)
+}
+
+/// Writes a `when` with these arguments.
+#[cycle(forms)]
+pub fn push_when(
+    alloc: Global,
+    base: &Base,
+    levels: &Levels,
+    depth: u32,
+    place: Place,
+    arguments: Items,
+    nodes: &mut Vec<ExpandedNode>,
+) -> Result<(), Memory>
+    ensures { OnOk result (nodes.new.items ≡ nodes.old.items ++ flat_one (Rows.when_form place (forms_in (scope_at base.now levels.now depth) arguments.entry))) }
+{
+    let body = rest(&arguments, 1);
+    push_form(CoreKind::If, place, 3, nodes)?;
+    push_head(alloc, base, levels, depth, place, arguments, nodes)?;
+    push_progn(alloc, base, levels, depth, place, body, nodes)?;
+    push_nil(place, nodes)
+}
+
+/// Writes an `unless` with these arguments.
+#[cycle(forms)]
+pub fn push_unless(
+    alloc: Global,
+    base: &Base,
+    levels: &Levels,
+    depth: u32,
+    place: Place,
+    arguments: Items,
+    nodes: &mut Vec<ExpandedNode>,
+) -> Result<(), Memory>
+    ensures { OnOk result (nodes.new.items ≡ nodes.old.items ++ flat_one (Rows.unless_form place (forms_in (scope_at base.now levels.now depth) arguments.entry))) }
+{
+    let body = rest(&arguments, 1);
+    push_form(CoreKind::If, place, 3, nodes)?;
+    push_head(alloc, base, levels, depth, place, arguments, nodes)?;
+    push_nil(place, nodes)?;
+    push_progn(alloc, base, levels, depth, place, body, nodes)
+}
+
+/// Writes what `or` and `cond` have in common: one as the value of a hidden variable, which is given where it is not
+/// NIL. Behind it comes what is done else.
+#[cycle(forms)]
+fn push_either(
+    alloc: Global,
+    base: &Base,
+    levels: &Levels,
+    depth: u32,
+    place: Place,
+    first: First,
+    nodes: &mut Vec<ExpandedNode>,
+) -> Result<(), Memory>
+    ensures { OnOk result (nodes.new.items ≡ nodes.old.items ++ either_nodes (scope_at base.now levels.now depth).depth place (first_form (scope_at base.now levels.now depth) first.entry)) }
+{
+    let number = depth;
+    push_form(CoreKind::Let, place, 2, nodes)?;
+    push_first(alloc, base, levels, depth, first, nodes)?;
+    push_form(CoreKind::BindLocal(number, 0), place, 1, nodes)?;
+    push_form(CoreKind::If, place, 3, nodes)?;
+    push_local(number, place, nodes)?;
+    push_local(number, place, nodes)
+}
+
+/// Writes an `or` of these.
+#[cycle(forms)]
+pub fn push_or(
+    alloc: Global,
+    base: &Base,
+    levels: &Levels,
+    depth: u32,
+    place: Place,
+    arguments: Items,
+    nodes: &mut Vec<ExpandedNode>,
+) -> Result<(), Memory>
+    ensures { OnOk result (nodes.new.items ≡ nodes.old.items ++ flat_one (ors_in (scope_at base.now levels.now depth) place arguments.entry)) }
+{
+    let mut open = depth;
+    let mut left = arguments;
+    while let Some((first, others)) = left.split_first() {
+        if others.count() == 0 {
+            return push_first(alloc, base, levels, open, first, nodes);
+        }
+        push_either(alloc, base, levels, open, place, first, nodes)?;
+        open = next(open)?;
+        left = others;
+    }
+    push_nil(place, nodes)
+}
+
+/// Writes a `cond` of these clauses.
+#[cycle(forms)]
+pub fn push_cond(
+    alloc: Global,
+    base: &Base,
+    levels: &Levels,
+    depth: u32,
+    place: Place,
+    clauses: Items,
+    nodes: &mut Vec<ExpandedNode>,
+) -> Result<(), Memory>
+    ensures { OnOk result (nodes.new.items ≡ nodes.old.items ++ flat_one (conds_in (scope_at base.now levels.now depth) place clauses.entry)) }
+{
+    let mut open = depth;
+    let mut left = clauses;
+    while let Some((first, others)) = left.split_first() {
+        match first {
+            First::Leaf(_, _) => (),
+            First::List(_, under) => {
+                let is_test = under.count() == 1;
+                push_clause(alloc, base, levels, open, place, under, nodes)?;
+                if is_test {
+                    open = next(open)?;
+                }
+            }
+        }
+        left = others;
+    }
+    push_nil(place, nodes)
+}
+
+/// Writes what a clause of `cond` with these adds in front of the other clauses.
+#[cycle(forms)]
+fn push_clause(
+    alloc: Global,
+    base: &Base,
+    levels: &Levels,
+    depth: u32,
+    place: Place,
+    under: Items,
+    nodes: &mut Vec<ExpandedNode>,
+) -> Result<(), Memory>
+    ensures { OnOk result (nodes.new.items ≡ nodes.old.items ++ clause_nodes (scope_at base.now levels.now depth).depth place (forms_in (scope_at base.now levels.now depth) under.entry)) }
+{
+    let Some((first, body)) = under.split_first() else {
+        return Ok(());
+    };
+    if body.count() == 0 {
+        return push_either(alloc, base, levels, depth, place, first, nodes);
+    }
+    push_form(CoreKind::If, place, 3, nodes)?;
+    push_first(alloc, base, levels, depth, first, nodes)?;
+    push_progn(alloc, base, levels, depth, place, body, nodes)
+}
+
+/// Writes an `and` of these.
+#[cycle(forms)]
+pub fn push_and(
+    alloc: Global,
+    base: &Base,
+    levels: &Levels,
+    depth: u32,
+    place: Place,
+    arguments: Items,
+    nodes: &mut Vec<ExpandedNode>,
+) -> Result<(), Memory>
+    ensures { OnOk result (nodes.new.items ≡ nodes.old.items ++ flat_one (Rows.and_form place (forms_in (scope_at base.now levels.now depth) arguments.entry))) }
+{
+    if arguments.count() == 0 {
+        return push_true(place, nodes);
+    }
+    let ifs = arguments.count() - 1;
+    let mut left = arguments;
+    while let Some((first, others)) = left.split_first() {
+        if others.count() > 0 {
+            push_form(CoreKind::If, place, 3, nodes)?;
+        }
+        push_first(alloc, base, levels, depth, first, nodes)?;
+        left = others;
+    }
+    push_forms(ifs, &CoreKind::Constant(Value::nil()), place, 0, nodes)
+}
+
+/// Writes a `prog1` with these arguments.
+#[cycle(forms)]
+pub fn push_prog1(
+    alloc: Global,
+    base: &Base,
+    levels: &Levels,
+    depth: u32,
+    place: Place,
+    arguments: Items,
+    nodes: &mut Vec<ExpandedNode>,
+) -> Result<(), Memory>
+    ensures { OnOk result (nodes.new.items ≡ nodes.old.items ++ flat_one (Rows.prog1_form (scope_at base.now levels.now depth).depth place (first_of place (forms_in (scope_at base.now levels.now depth) arguments.entry)) (body_in (deeper (scope_at base.now levels.now depth)) 1 arguments.entry))) }
+{
+    let number = depth;
+    let inner = next(depth)?;
+    let body = body_of(base.symbols, rest(&arguments, 1));
+    // The law that they are few.
+    body.are_few();
+    push_form(CoreKind::Let, place, 2, nodes)?;
+    push_head(alloc, base, levels, depth, place, arguments, nodes)?;
+    push_form(
+        CoreKind::BindLocal(number, 0),
+        place,
+        body.count() + 1,
+        nodes,
+    )?;
+    push_all(alloc, base, levels, inner, body, nodes)?;
+    push_local(number, place, nodes)
+}
+
+/// Writes a `setq` of these pairs.
+#[cycle(forms)]
+pub fn push_setq(
+    alloc: Global,
+    base: &Base,
+    levels: &Levels,
+    depth: u32,
+    place: Place,
+    arguments: Items,
+    nodes: &mut Vec<ExpandedNode>,
+) -> Result<(), Memory>
+    ensures { OnOk result (nodes.new.items ≡ nodes.old.items ++ flat_one (Rows.as_one place (pairs_in (scope_at base.now levels.now depth) place arguments.entry))) }
+{
+    let count = count_pairs(&arguments);
+    if count == 0 {
+        return push_nil(place, nodes);
+    }
+    if count > 1 {
+        push_form(CoreKind::Progn, place, count, nodes)?;
+    }
+    push_pairs(alloc, base, levels, depth, place, arguments, nodes)
+}
+
+/// How many pairs these are.
+fn count_pairs(items: &Items) -> u32
+    ensures { (s : Scope) (place : ℕ) → result ≡ count_of (pairs_in s place items.now) }
+{
+    // The law that they are few.
+    items.are_few();
+    let mut pairs = 0;
+    let mut left = items.skip(0);
+    while let Some((first, others)) = left.split_first() {
+        if is_list(&first) {
+            return pairs;
+        }
+        let Some((_, behind)) = others.split_first() else {
+            return pairs;
+        };
+        pairs += 1;
+        left = behind;
+    }
+    pairs
+}
+
+/// Writes the pairs of a `setq`.
+#[cycle(forms)]
+fn push_pairs(
+    alloc: Global,
+    base: &Base,
+    levels: &Levels,
+    depth: u32,
+    place: Place,
+    items: Items,
+    nodes: &mut Vec<ExpandedNode>,
+) -> Result<(), Memory>
+    ensures { OnOk result (nodes.new.items ≡ nodes.old.items ++ flat (pairs_in (scope_at base.now levels.now depth) place items.entry)) }
+{
+    let mut left = items;
+    while let Some((first, others)) = left.split_first() {
+        if is_list(&first) {
+            return Ok(());
+        }
+        let Some((value, behind)) = others.split_first() else {
+            return Ok(());
+        };
+        push_pair(alloc, base, levels, depth, place, &first, value, nodes)?;
+        left = behind;
+    }
+    Ok(())
+}
+
+/// Writes a pair of a `setq`.
+#[cycle(forms)]
+fn push_pair(
+    alloc: Global,
+    base: &Base,
+    levels: &Levels,
+    depth: u32,
+    place: Place,
+    variable: &First,
+    value: First,
+    nodes: &mut Vec<ExpandedNode>,
+) -> Result<(), Memory>
+    ensures { OnOk result (nodes.new.items ≡ nodes.old.items ++ flat_one (Rows.set_form place (target_in (scope_at base.now levels.now depth) (symbol_of variable.now)) (place_of variable.now) (first_form (scope_at base.now levels.now depth) value.entry))) }
+{
+    match target_within(base, levels, depth, variable) {
+        None => push_node(
+            Expanded::Refused(UNKNOWN_VARIABLE),
+            place_by(variable),
+            0,
+            nodes,
+        ),
+        Some(target) => {
+            push_form(set_kind(&target), place, 1, nodes)?;
+            push_first(alloc, base, levels, depth, value, nodes)
+        }
+    }
+}
+
+/// Writes an `incf` or `decf` with these arguments.
+#[cycle(forms)]
+pub fn push_change(
+    alloc: Global,
+    base: &Base,
+    levels: &Levels,
+    depth: u32,
+    target: Target,
+    function: Primitive,
+    place: Place,
+    arguments: Items,
+    nodes: &mut Vec<ExpandedNode>,
+) -> Result<(), Memory>
+    ensures { OnOk result (nodes.new.items ≡ nodes.old.items ++ flat_one (Rows.change_form place target function (forms_in (scope_at base.now levels.now depth) arguments.entry))) }
+{
+    let amount = rest(&arguments, 1);
+    push_form(set_kind(&target), place, 1, nodes)?;
+    push_form(CoreKind::Apply(function), place, 2, nodes)?;
+    push_form(read_kind(&target), place, 0, nodes)?;
+    match amount.split_first() {
+        None => push_number(1, place, nodes),
+        Some((first, _)) => push_first(alloc, base, levels, depth, first, nodes),
+    }
+}
+
+/// Writes a function of two that is folded over these.
+#[cycle(forms)]
+pub fn push_fold(
+    alloc: Global,
+    base: &Base,
+    levels: &Levels,
+    depth: u32,
+    function: Primitive,
+    place: Place,
+    arguments: Items,
+    nodes: &mut Vec<ExpandedNode>,
+) -> Result<(), Memory>
+    ensures { OnOk result (nodes.new.items ≡ nodes.old.items ++ flat_one (Rows.fold_form place function (forms_in (scope_at base.now levels.now depth) arguments.entry))) }
+{
+    let count = arguments.count();
+    if count == 0 {
+        return push_nil(place, nodes);
+    }
+    if count == 1 {
+        push_form(CoreKind::Apply(function), place, 2, nodes)?;
+        push_number(unit_of(function), place, nodes)?;
+        return push_all(alloc, base, levels, depth, arguments, nodes);
+    }
+    push_forms(count - 1, &CoreKind::Apply(function), place, 2, nodes)?;
+    push_all(alloc, base, levels, depth, arguments, nodes)
+}
+
+/// The number that changes nothing.
+fn unit_of(function: Primitive) -> i64
+    ensures { result ≡ Rows.unit_of function }
+{
+    match function {
+        Primitive::Multiply => 1,
+        _ => 0,
+    }
+}
+
+/// Writes a function of the first of these twice.
+#[cycle(forms)]
+pub fn push_twice(
+    alloc: Global,
+    base: &Base,
+    levels: &Levels,
+    depth: u32,
+    function: Primitive,
+    place: Place,
+    arguments: Items,
+    nodes: &mut Vec<ExpandedNode>,
+) -> Result<(), Memory>
+    ensures { OnOk result (nodes.new.items ≡ nodes.old.items ++ flat_one (Rows.twice_form (scope_at base.now levels.now depth).depth place function (first_of place (forms_in (scope_at base.now levels.now depth) arguments.entry)))) }
+{
+    let number = depth;
+    push_form(CoreKind::Let, place, 2, nodes)?;
+    push_head(alloc, base, levels, depth, place, arguments, nodes)?;
+    push_form(CoreKind::BindLocal(number, 0), place, 1, nodes)?;
+    push_form(CoreKind::Apply(function), place, 2, nodes)?;
+    push_local(number, place, nodes)?;
+    push_local(number, place, nodes)
+}
+
+/// Writes an `ignore-errors` of these.
+#[cycle(forms)]
+pub fn push_ignore(
+    alloc: Global,
+    base: &Base,
+    levels: &Levels,
+    depth: u32,
+    place: Place,
+    arguments: Items,
+    nodes: &mut Vec<ExpandedNode>,
+) -> Result<(), Memory>
+    ensures { OnOk result (nodes.new.items ≡ nodes.old.items ++ flat_one (Rows.ignore_form place (forms_in (scope_at base.now levels.now depth) arguments.entry))) }
+{
+    push_form(CoreKind::HandlerCase, place, 2, nodes)?;
+    push_progn(alloc, base, levels, depth, place, arguments, nodes)?;
+    push_form(CoreKind::Clause(Class::Error), place, 1, nodes)?;
+    push_nil(place, nodes)
+}
+
+/// Writes a `terminate-thread` of the first of these.
+#[cycle(forms)]
+pub fn push_terminate(
+    alloc: Global,
+    base: &Base,
+    levels: &Levels,
+    depth: u32,
+    place: Place,
+    arguments: Items,
+    nodes: &mut Vec<ExpandedNode>,
+) -> Result<(), Memory>
+    ensures { OnOk result (nodes.new.items ≡ nodes.old.items ++ flat_one (Rows.terminate_form place (forms_in (scope_at base.now levels.now depth) arguments.entry))) }
+{
+    push_form(CoreKind::Serve(Service::InterruptThread), place, 2, nodes)?;
+    push_head(alloc, base, levels, depth, place, arguments, nodes)?;
+    push_form(
+        CoreKind::Function(FunctionName::AbortThread),
+        place,
+        0,
+        nodes,
+    )
+}

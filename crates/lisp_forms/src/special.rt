@@ -1,0 +1,70 @@
+ghost use Rattle.std.specs.Prelude.{◌≡◌, ◌++◌, OnOk};
+ghost use Rattle.std.specs.List.{list_any};
+ghost use Rattle.lisp_forms.specs.Scopes.{has};
+ghost use Rattle.lisp_forms.specs.Written.{special_node, special_nodes, special_parts as parts_of_special};
+
+use crate::expanded::ExpandedNode;
+use crate::levels::next;
+use crate::nodes::{push_form, push_local};
+use crate::scope::has;
+use lisp_base::id::{Place, SymbolId};
+use lisp_base::memory::Memory;
+use lisp_program::form::CoreKind;
+
+/// How many forms a body of so many is, where these parameters are bound round it.
+pub fn special_parts(specials: &[SymbolId], parameters: &[SymbolId], body: u32) -> u32
+    ensures { result ≡ parts_of_special specials.now body parameters.now }
+{
+    if any_special(specials, parameters) {
+        1
+    } else {
+        body
+    }
+}
+
+/// Whether some of these parameters are special.
+fn any_special(specials: &[SymbolId], parameters: &[SymbolId]) -> bool
+    ensures { result ≡ list_any (has specials.now) parameters.now }
+{
+    parameters.iter().any(|parameter| has(specials, *parameter))
+}
+
+/// Writes what binds this parameter with this number, where it is special, round the others and a body of so many forms.
+fn push_special(
+    specials: &[SymbolId],
+    place: Place,
+    number: u32,
+    parameter: SymbolId,
+    others: &[SymbolId],
+    body: u32,
+    nodes: &mut Vec<ExpandedNode>,
+) -> Result<(), Memory>
+    ensures { OnOk result (nodes.new.items ≡ nodes.old.items ++ special_node specials.now place body number parameter others.now) }
+{
+    if !has(specials, parameter) {
+        return Ok(());
+    }
+    let parts = special_parts(specials, others, body);
+    push_form(CoreKind::Let, place, 2, nodes)?;
+    push_local(number, place, nodes)?;
+    push_form(CoreKind::BindSpecial(parameter, 0), place, parts, nodes)
+}
+
+/// Writes what binds the special ones of these parameters round a body of so many forms.
+pub fn push_specials(
+    specials: &[SymbolId],
+    place: Place,
+    parameters: &[SymbolId],
+    body: u32,
+    nodes: &mut Vec<ExpandedNode>,
+) -> Result<(), Memory>
+    ensures { OnOk result (nodes.new.items ≡ nodes.old.items ++ special_nodes specials.now place body 0 parameters.now) }
+{
+    let mut number = 0;
+    for (index, parameter) in parameters.iter().enumerate() {
+        let others = &parameters[index + 1..];
+        push_special(specials, place, number, *parameter, others, body, nodes)?;
+        number = next(number)?;
+    }
+    Ok(())
+}

@@ -1,0 +1,276 @@
+ghost use Rattle.std.specs.Prelude.{◌≡◌, ◌++◌, IfOk, OnOk};
+ghost use Rattle.lisp_forms.specs.Contexts.{known_as, scope_at};
+ghost use Rattle.lisp_forms.specs.Flat.{flat, flat_one};
+ghost use Rattle.lisp_forms.specs.Program;
+ghost use Rattle.lisp_forms.specs.Scopes.{first_symbol as first_symbol_in};
+ghost use Rattle.lisp_forms.specs.Shapes.{shape_of};
+ghost use Rattle.lisp_reader.specs.Data.{Data, count_of};
+
+use crate::bindings::{function_body_of, list_fault, parameters_in, parameters_of};
+use crate::blocks::{blocked_parts, push_blocked};
+use crate::expand::{push_all, push_shaped};
+use crate::expanded::{Expanded, ExpandedNode};
+use crate::function_names::operator_named;
+use crate::keywords::Roles;
+use crate::levels::{Level, Levels};
+use crate::nodes::push_node;
+use crate::operator::Operator;
+use crate::program::{add_name, built_in, definition_in, definition_of, function_in, function_of};
+use crate::refusal::{DEFINED_TWICE, TOO_MANY, UNKNOWN_OPERATOR};
+use crate::scope::{Base, first_symbol, has, name_of};
+use crate::shape::Shape;
+use crate::special::{push_specials, special_parts};
+use crate::within::{leaf_within, received_within, shape_within};
+use lisp_base::id::{Place, SymbolId};
+use lisp_base::memory::Memory;
+use lisp_base::value::Value;
+use lisp_program::form::CoreKind;
+use lisp_reader::datum::Datum;
+use lisp_reader::items::{First, Items};
+use std::alloc::Global;
+use symbol_table::symbols::Symbols;
+
+/// A program may define so many special variables.
+const MOST_SPECIALS: usize = 256;
+
+/// What is defined before a form.
+#[derive(Debug, Drop)]
+pub struct Known {
+    pub variables: Vec<SymbolId>,
+    pub functions: Vec<SymbolId>,
+}
+
+/// A definition of a variable with so many arguments, by `defvar` or else by `defparameter`.
+fn definition_shape(symbol: SymbolId, by_defvar: bool, count: u32) -> Shape
+    ensures { (args : Data) → count ≡ count_of args → result ≡ Program.definition_shape symbol by_defvar args }
+{
+    if by_defvar && count == 1 {
+        return Shape::Leaf(Expanded::Form(CoreKind::Constant(Value::symbol(symbol))));
+    }
+    if by_defvar {
+        return Shape::Over(CoreKind::Defvar(symbol), Roles::Just(1));
+    }
+    Shape::Over(CoreKind::Defparameter(symbol), Roles::Just(1))
+}
+
+/// The same, where these variables are defined before it.
+fn variable_shape(
+    known: &[SymbolId],
+    place: Place,
+    symbol: SymbolId,
+    by_defvar: bool,
+    count: u32,
+) -> Shape
+    ensures { (args : Data) → count ≡ count_of args → result ≡ Program.variable_shape known.now place symbol by_defvar args }
+{
+    if has(known, symbol) {
+        return Shape::Wrong(DEFINED_TWICE, place);
+    }
+    if known.len() == MOST_SPECIALS {
+        return Shape::Wrong(TOO_MANY, place);
+    }
+    definition_shape(symbol, by_defvar, count)
+}
+
+/// A definition of a function whose parameters have this fault or none, where these functions are defined before it.
+fn defun_shape(
+    symbols: &Symbols,
+    known: &[SymbolId],
+    place: Place,
+    name: SymbolId,
+    fault: Option<u32>,
+) -> Shape
+    ensures { result ≡ Program.defun_shape symbols.now known.now place name fault }
+{
+    let is_known = has(known, name);
+    match fault {
+        Some(DEFINED_TWICE) if !is_known => {
+            Shape::Leaf(Expanded::RefusedFunction(DEFINED_TWICE))
+        }
+        Some(number) => Shape::Wrong(number, place),
+        None if is_known => Shape::Wrong(DEFINED_TWICE, place),
+        None if operator_named(name_of(symbols, name)).is_some() => {
+            Shape::Leaf(Expanded::RefusedFunction(DEFINED_TWICE))
+        }
+        None => Shape::Defun(name),
+    }
+}
+
+/// Whether a list of these is a `defvar`.
+fn is_defvar(symbols: &Symbols, under: &Items) -> bool
+    ensures { result ≡ Program.is_defvar (Program.built_in symbols.now (first_symbol_in under.now)) }
+{
+    match built_in(symbols, first_symbol(under)) {
+        Some(Operator::Defvar) => true,
+        _ => false,
+    }
+}
+
+/// Whether a list of these is ignored at top level.
+fn is_ignored(symbols: &Symbols, under: &Items) -> bool
+    ensures { result ≡ Program.is_ignored (Program.built_in symbols.now (first_symbol_in under.now)) }
+{
+    match built_in(symbols, first_symbol(under)) {
+        Some(Operator::Ignored) => true,
+        _ => false,
+    }
+}
+
+/// What a list of these is that defines nothing at top level.
+fn other_shape(
+    alloc: Global,
+    base: &Base,
+    levels: &Levels,
+    place: Place,
+    under: &Items,
+) -> Result<Shape, Memory>
+    ensures { IfOk result (λ shape. shape ≡ Program.other_shape (Program.built_in base.now.symbols.now (first_symbol_in under.now)) (shape_of (scope_at base.now levels.now 0) place under.now)) }
+{
+    if is_ignored(base.symbols, under) {
+        return Ok(Shape::Leaf(Expanded::Form(CoreKind::Constant(Value::nil()))));
+    }
+    shape_within(alloc, base, levels, 0, place, under)
+}
+
+/// What a list of these at top level is.
+fn top_shape(
+    alloc: Global,
+    base: &Base,
+    levels: &Levels,
+    known: &Known,
+    place: Place,
+    under: &Items,
+) -> Result<Shape, Memory>
+    ensures { IfOk result (λ shape. shape ≡ Program.top_shape (scope_at base.now levels.now 0) (known_as known.now) place (Program.definition_in base.now.symbols.now under.now) (Program.function_in base.now.symbols.now under.now) under.now) }
+{
+    let symbols = base.symbols;
+    if let Some(symbol) = definition_in(symbols, under) {
+        let by_defvar = is_defvar(symbols, under);
+        let count = under.skip(1).count();
+        let known = known.variables.as_slice();
+        return Ok(variable_shape(known, place, symbol, by_defvar, count));
+    }
+    match function_in(alloc, symbols, under)? {
+        Some(name) => {
+            let parameters = parameters_of(alloc, &under.skip(2))?;
+            let fault = list_fault(symbols, &parameters);
+            let known = known.functions.as_slice();
+            Ok(defun_shape(symbols, known, place, name, fault))
+        }
+        None => other_shape(alloc, base, levels, place, under),
+    }
+}
+
+/// Writes a `defun` of this name with these arguments.
+fn push_defun(
+    alloc: Global,
+    base: &Base,
+    levels: &Levels,
+    name: SymbolId,
+    place: Place,
+    arguments: Items,
+    nodes: &mut Vec<ExpandedNode>,
+) -> Result<(), Memory>
+    ensures { OnOk result (nodes.new.items ≡ nodes.old.items ++ flat_one (Program.top_list_form (scope_at base.now levels.now 0) place (Shape.Defun name) arguments.entry)) }
+{
+    let parameters = parameters_in(alloc, &arguments.skip(1))?;
+    let bound = parameters.as_slice();
+    let mut open = received_within(alloc, base, levels, 0, bound)?;
+    let count = open.depth;
+    open.open(Level::Block(name))?;
+    let body = function_body_of(base.symbols, arguments.skip(2));
+    let forms = body.count();
+    let mut written = Vec::new(alloc);
+    push_all(alloc, base, &open.levels, open.depth, body, &mut written)?;
+    let inner = written.as_slice();
+    let blocked = blocked_parts(count, forms, inner);
+    let parts = special_parts(base.specials, bound, blocked);
+    push_node(Expanded::Defun(name, count), place, parts, nodes)?;
+    push_specials(base.specials, place, bound, blocked, nodes)?;
+    push_blocked(count, place, forms, inner, nodes)
+}
+
+/// Writes a list of this shape with these arguments at top level.
+fn push_top_shaped(
+    alloc: Global,
+    base: &Base,
+    levels: &Levels,
+    shape: Shape,
+    place: Place,
+    arguments: Items,
+    nodes: &mut Vec<ExpandedNode>,
+) -> Result<(), Memory>
+    ensures { OnOk result (nodes.new.items ≡ nodes.old.items ++ flat_one (Program.top_list_form (scope_at base.now levels.now 0) place shape arguments.entry)) }
+{
+    match shape {
+        Shape::Defun(name) => push_defun(alloc, base, levels, name, place, arguments, nodes),
+        other => push_shaped(alloc, base, levels, 0, other, place, arguments, nodes),
+    }
+}
+
+/// Writes a list of these at top level.
+fn push_top_list(
+    alloc: Global,
+    base: &Base,
+    levels: &Levels,
+    known: &Known,
+    place: Place,
+    under: Items,
+    nodes: &mut Vec<ExpandedNode>,
+) -> Result<(), Memory>
+    ensures { OnOk result (nodes.new.items ≡ nodes.old.items ++ flat_one (Program.top_list (scope_at base.now levels.now 0) (known_as known.now) place under.entry)) }
+{
+    match top_shape(alloc, base, levels, known, place, &under) {
+        Ok(shape) => push_top_shaped(alloc, base, levels, shape, place, under.skip(1), nodes),
+        Err(memory) => Err(memory),
+    }
+}
+
+/// Writes the form of a datum at top level.
+fn push_top(
+    alloc: Global,
+    base: &Base,
+    levels: &Levels,
+    known: &Known,
+    datum: &Datum,
+    nodes: &mut Vec<ExpandedNode>,
+) -> Result<(), Memory>
+    ensures { OnOk result (nodes.new.items ≡ nodes.old.items ++ flat_one (Program.top_form (scope_at base.now levels.now 0) (known_as known.now) datum.now)) }
+{
+    let Some((first, _)) = Items::of(datum).split_first() else {
+        return push_node(Expanded::Refused(UNKNOWN_OPERATOR), Place(0), 0, nodes);
+    };
+    match first {
+        First::Leaf(leaf, place) => push_node(leaf_within(base, levels, 0, leaf), place, 0, nodes),
+        First::List(place, under) => push_top_list(alloc, base, levels, known, place, under, nodes),
+    }
+}
+
+/// Puts what a datum defines behind what is known.
+fn know(alloc: Global, symbols: &Symbols, datum: &Datum, known: &mut Known) -> Result<(), Memory>
+    ensures { OnOk result (known_as known.new ≡ Program.known_behind symbols.now datum.now (known_as known.old)) }
+{
+    add_name(definition_of(symbols, datum), &mut known.variables)?;
+    add_name(function_of(alloc, symbols, datum)?, &mut known.functions)
+}
+
+/// The expansion of a program.
+pub fn expansion(
+    alloc: Global,
+    base: &Base,
+    levels: &Levels,
+    program: &[Datum],
+) -> Result<Vec<ExpandedNode>, Memory>
+    ensures { IfOk result (λ nodes. nodes.items ≡ flat (Program.top_forms (scope_at base.now levels.now 0) Program.nothing_known program.now)) }
+{
+    let mut nodes = Vec::new(alloc);
+    let mut known = Known {
+        variables: Vec::new(alloc),
+        functions: Vec::new(alloc),
+    };
+    for datum in program {
+        push_top(alloc, base, levels, &known, datum, &mut nodes)?;
+        know(alloc, base.symbols, datum, &mut known)?;
+    }
+    Ok(nodes)
+}

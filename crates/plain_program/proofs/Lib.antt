@@ -1,0 +1,2 @@
+pub mod Flatly
+pub mod Tables

@@ -1,0 +1,2 @@
+(defun first-done ()
+  (make-thread (lambda () (return-from first-done 1))))
