@@ -2,12 +2,12 @@
 use Rattle.std.proofs.Common.{◌≡◌, ℕ, suc, ◌+◌, ◌-◌, ◌<◌, List, [], ◌∷◌, ◌++◌, Bool, true, false, if◌then◌else◌, length, get_or, drop, refl, ap, sym, ◌∙◌, arith, append_assoc, add-one, drop-cons, length-drop}
 use Rattle.lisp_program.specs.declared.form.CoreKind.{CoreKind}
 use Rattle.lisp_program.specs.declared.form.CoreKind.TheVariants.{BindSpecial, BindLocal}
-use Rattle.lisp_forms.specs.declared.expanded.Expanded.TheVariants.{Form}
-use Rattle.lisp_forms.specs.declared.expanded.ExpandedNode.{ExpandedNode}
-use Rattle.lisp_forms.specs.declared.levels.Level.TheVariants.{Variable}
-use Rattle.lisp_forms.specs.Bindings.{opened_by}
+use Rattle.form_shapes.specs.declared.expanded.Expanded.TheVariants.{Form}
+use Rattle.form_shapes.specs.declared.expanded.ExpandedNode.{ExpandedNode}
+use Rattle.form_shapes.specs.declared.levels.Level.TheVariants.{Variable}
+use Rattle.form_shapes.specs.Bindings.{opened_by}
+use Rattle.form_shapes.specs.Scopes.{Scope, has, inside}
 use Rattle.lisp_forms.specs.Flat.{node}
-use Rattle.lisp_forms.specs.Scopes.{Scope, has, inside}
 use Rattle.lisp_forms.specs.Written.{bind_nodes, forms_under, number_behind}
 
 -- the kind of a binding, by the special variables and the number of a lexical one

@@ -5,22 +5,22 @@ use Rattle.lisp_base.specs.declared.condition.Class.{Class}
 use Rattle.lisp_base.specs.declared.condition.Class.TheVariants.{Condition}
 use Rattle.lisp_program.specs.declared.form.CoreKind.{CoreKind}
 use Rattle.lisp_program.specs.declared.form.CoreKind.TheVariants as k
-use Rattle.lisp_reader.specs.declared.items.First.{First}
-use Rattle.lisp_reader.specs.declared.items.First.TheVariants.{Leaf as LeafFirst, List as ListFirst}
-use Rattle.lisp_reader.specs.Data.{Data, behind, count_of as data_in}
-use Rattle.lisp_reader.specs.First.{with_first}
-use Rattle.lisp_forms.specs.declared.expanded.Expanded.TheVariants.{Form}
-use Rattle.lisp_forms.specs.declared.expanded.ExpandedNode.{ExpandedNode}
-use Rattle.lisp_forms.specs.declared.keywords.Roles.{Roles}
-use Rattle.lisp_forms.specs.declared.levels.Level.TheVariants.{Variable}
-use Rattle.lisp_forms.specs.Bindings.{body_of, received_by}
-use Rattle.lisp_forms.specs.Clauses.{class_of, clause_variable}
+use Rattle.lisp_data.specs.declared.items.First.{First}
+use Rattle.lisp_data.specs.declared.items.First.TheVariants.{Leaf as LeafFirst, List as ListFirst}
+use Rattle.lisp_data.specs.Data.{Data, behind, count_of as data_in}
+use Rattle.lisp_data.specs.First.{with_first}
+use Rattle.form_shapes.specs.declared.expanded.Expanded.TheVariants.{Form}
+use Rattle.form_shapes.specs.declared.expanded.ExpandedNode.{ExpandedNode}
+use Rattle.form_shapes.specs.declared.keywords.Roles.{Roles}
+use Rattle.form_shapes.specs.declared.levels.Level.TheVariants.{Variable}
+use Rattle.form_shapes.specs.Bindings.{body_of, received_by}
+use Rattle.form_shapes.specs.Clauses.{class_of, clause_variable}
+use Rattle.form_shapes.specs.Keywords.{parts_of}
+use Rattle.form_shapes.specs.One.{is_list, items_first, symbol_by}
+use Rattle.form_shapes.specs.Scopes.{Scope, deeper, has, inside}
 use Rattle.lisp_forms.specs.Expansion.{body_in, by_roles, clause_in, forms_in, in_clause, or_condition, within_first}
 use Rattle.lisp_forms.specs.Flat.{flat, flat_one, node}
-use Rattle.lisp_forms.specs.Keywords.{parts_of}
-use Rattle.lisp_forms.specs.One.{is_list, items_first, symbol_by}
 use Rattle.lisp_forms.specs.Rows.{clause_form, local}
-use Rattle.lisp_forms.specs.Scopes.{Scope, deeper, has, inside}
 use Rattle.lisp_forms.specs.Trees.{Expansion, Single, both, form, in_front, only, three}
 use Rattle.lisp_forms.proofs.Parts.{body-forms, count-forms, count-joined, count-roles, flat-joined, last_step, two_steps, within-items}
 

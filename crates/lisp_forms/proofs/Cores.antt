@@ -6,9 +6,9 @@ use Rattle.lisp_program.specs.Forms.{Forms, forms_of, preorder}
 use Rattle.lisp_program.specs.Program.{Function}
 use Rattle.lisp_program.specs.declared.form.CoreKind.{CoreKind}
 use Rattle.lisp_program.specs.declared.form.FormNode.{FormNode}
-use Rattle.lisp_forms.specs.declared.expanded.Expanded.{Expanded}
-use Rattle.lisp_forms.specs.declared.expanded.Expanded.TheVariants.{Form, Lambda, Defun, Refused, RefusedFunction}
-use Rattle.lisp_forms.specs.declared.expanded.ExpandedNode.{ExpandedNode}
+use Rattle.form_shapes.specs.declared.expanded.Expanded.{Expanded}
+use Rattle.form_shapes.specs.declared.expanded.Expanded.TheVariants.{Form, Lambda, Defun, Refused, RefusedFunction}
+use Rattle.form_shapes.specs.declared.expanded.ExpandedNode.{ExpandedNode}
 use Rattle.lisp_forms.specs.Flat.{flat, node}
 use Rattle.lisp_forms.specs.Program.{core_forms, core_kind, functions_of, with_function}
 use Rattle.lisp_forms.specs.Rows.{is_function}

@@ -4,13 +4,13 @@ use Rattle.lisp_base.specs.Forest.{count_of}
 use Rattle.lisp_program.specs.Forms.{forms_of, preorder}
 use Rattle.lisp_program.specs.Program.{AreWhole, FlatFunction, FlatProgram, function_of, program_of}
 use Rattle.lisp_program.specs.declared.form.FormNode.{FormNode}
-use Rattle.lisp_reader.specs.Data.{Data}
-use Rattle.lisp_forms.specs.declared.expanded.ExpandedNode.{ExpandedNode}
+use Rattle.lisp_data.specs.Data.{Data}
+use Rattle.form_shapes.specs.declared.expanded.ExpandedNode.{ExpandedNode}
+use Rattle.form_shapes.specs.declared.levels.Numbered.{Numbered}
+use Rattle.form_shapes.specs.Scopes.{Scope}
 use Rattle.lisp_forms.specs.declared.expander.Refusal.{Refusal}
-use Rattle.lisp_forms.specs.declared.levels.Numbered.{Numbered}
 use Rattle.lisp_forms.specs.Flat.{flat}
 use Rattle.lisp_forms.specs.Program.{Expands, Known, core_forms, expansion_of, functions_from, functions_of, known_behind, nothing_known, program_refusal, top_forms, variables_from}
-use Rattle.lisp_forms.specs.Scopes.{Scope}
 use Rattle.lisp_forms.specs.Trees.{Expansion}
 use Rattle.lisp_forms.proofs.Cores.{forms_back}
 

@@ -1,20 +1,20 @@
 -- Functions with their parameters and bodies, as the code writes them.
+use Rattle.std.specs.List.{list_any}
 use Rattle.std.proofs.Common.{◌≡◌, ℕ, zero, suc, ◌+◌, List, [], ◌∷◌, ◌++◌, Bool, true, false, ◌||◌, ◌&&◌, not, if◌then◌else◌, nat_lt, length, refl, ap, sym, ◌∙◌, arith, append-nil}
 use Rattle.std.proofs.lemmas.Bool.Decides.{nat_tests}
-use Rattle.std.specs.List.{list_any}
 use Rattle.lisp_base.specs.Forest.{count_of}
 use Rattle.lisp_program.specs.declared.form.CoreKind.TheVariants.{BindSpecial, Let, Local}
-use Rattle.lisp_reader.specs.Data.{Data, NoData, Atom, Listed, behind, count_of as data_in}
-use Rattle.lisp_forms.specs.declared.expanded.Expanded.{Expanded}
-use Rattle.lisp_forms.specs.declared.expanded.Expanded.TheVariants.{Form}
-use Rattle.lisp_forms.specs.declared.expanded.ExpandedNode.{ExpandedNode}
-use Rattle.lisp_forms.specs.declared.levels.Level.TheVariants.{Variable}
-use Rattle.lisp_forms.specs.Bindings.{body_of, function_body_of, is_declaration, is_text, received, received_by}
+use Rattle.lisp_data.specs.Data.{Data, NoData, Atom, Listed, behind, count_of as data_in}
+use Rattle.form_shapes.specs.declared.expanded.Expanded.{Expanded}
+use Rattle.form_shapes.specs.declared.expanded.Expanded.TheVariants.{Form}
+use Rattle.form_shapes.specs.declared.expanded.ExpandedNode.{ExpandedNode}
+use Rattle.form_shapes.specs.declared.levels.Level.TheVariants.{Variable}
+use Rattle.form_shapes.specs.Bindings.{body_of, function_body_of, is_declaration, is_text, received, received_by}
+use Rattle.form_shapes.specs.Places.{scope_within}
+use Rattle.form_shapes.specs.Scopes.{Scope, deeper, has, inside}
 use Rattle.lisp_forms.specs.Expansion.{body_in, forms_in, function_body_in, is_none}
 use Rattle.lisp_forms.specs.Flat.{flat, flat_one, node}
-use Rattle.lisp_forms.specs.Places.{scope_within}
 use Rattle.lisp_forms.specs.Rows.{local, specials_bound}
-use Rattle.lisp_forms.specs.Scopes.{Scope, deeper, has, inside}
 use Rattle.lisp_forms.specs.Trees.{Expansion, Single, both, form, only}
 use Rattle.lisp_forms.specs.Written.{special_nodes, special_parts}
 use Rattle.lisp_forms.proofs.Parts.{body-forms}

@@ -2,17 +2,17 @@
 use Rattle.std.proofs.Common.{◌≡◌, ◌≢◌, ℕ, suc, ◌+◌, ◌<◌, ◌≤◌, ◌^◌, List, [], ◌∷◌, ◌++◌, Option, Some, None, OnOk, Result, length, refl, ap, sym, ◌∙◌, arith, append_assoc, append-nil}
 use Rattle.lisp_base.specs.Forest.{count_of, joined}
 use Rattle.lisp_program.specs.declared.form.CoreKind.TheVariants.{Let, Progn}
-use Rattle.lisp_reader.specs.Data.{Data, NoData, Atom, Listed, behind, count_of as data_in}
-use Rattle.lisp_forms.specs.declared.expanded.Expanded.TheVariants.{Form}
-use Rattle.lisp_forms.specs.declared.expanded.ExpandedNode.{ExpandedNode}
-use Rattle.lisp_forms.specs.declared.scope.Opened.{Opened}
-use Rattle.lisp_forms.specs.Bindings.{and_others, body_of, bound_in, bound_in_list, opened, opened_by, or_none}
-use Rattle.lisp_forms.specs.Contexts.{with_opened}
+use Rattle.lisp_data.specs.Data.{Data, NoData, Atom, Listed, behind, count_of as data_in}
+use Rattle.form_shapes.specs.declared.expanded.Expanded.TheVariants.{Form}
+use Rattle.form_shapes.specs.declared.expanded.ExpandedNode.{ExpandedNode}
+use Rattle.form_shapes.specs.declared.scope.Opened.{Opened}
+use Rattle.form_shapes.specs.Bindings.{and_others, body_of, bound_in, bound_in_list, opened, opened_by, or_none}
+use Rattle.form_shapes.specs.Contexts.{with_opened}
+use Rattle.form_shapes.specs.One.{items_first, let_variables}
+use Rattle.form_shapes.specs.Scopes.{Scope, leaf_symbol}
 use Rattle.lisp_forms.specs.Expansion.{body_in, forms_in, turn_first, values_first, values_in}
 use Rattle.lisp_forms.specs.Flat.{flat, flat_one, node}
-use Rattle.lisp_forms.specs.One.{items_first, let_variables}
 use Rattle.lisp_forms.specs.Rows.{bind_kind, binds, let_form, let_star_form}
-use Rattle.lisp_forms.specs.Scopes.{Scope, leaf_symbol}
 use Rattle.lisp_forms.specs.Trees.{Expansion, Single, progn_form}
 use Rattle.lisp_forms.specs.Written.{bind_nodes}
 use Rattle.lisp_forms.proofs.Parts.{body-forms, count-forms, count-joined, flat-joined, last_step, two_steps}

@@ -1,11 +1,3 @@
-pub mod Odd
-pub mod Bound
-pub mod Taken
-pub mod Counted
-pub mod Served
-pub mod Numbers
-pub mod Openings
-pub mod Counts
 pub mod Repeated
 pub mod Tally
 pub mod Binds
@@ -16,7 +8,6 @@ pub mod Cores
 pub mod Lambdas
 pub mod Tops
 pub mod Expands
-pub mod Sized
 pub mod Parts
 pub mod Steps
 pub mod Letting

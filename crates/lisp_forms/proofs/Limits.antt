@@ -3,7 +3,8 @@ use Rattle.std.proofs.Common.{◌≡◌, ◌≢◌, ℕ, suc, ◌+◌, ◌<◌, 
 use Rattle.std.proofs.lemmas.Bool.Decides.{nat_tests}
 use Rattle.std.proofs.Math.ListN.{drop_of_length-le}
 use Rattle.lisp_base.specs.Forest.{NoTrees, Tree}
-use Rattle.lisp_forms.specs.declared.expanded.ExpandedNode.{ExpandedNode}
+use Rattle.lisp_operators.proofs.Chosen.{other_of}
+use Rattle.form_shapes.specs.declared.expanded.ExpandedNode.{ExpandedNode}
 use Rattle.lisp_forms.specs.declared.expander.Refusal.{Refusal}
 use Rattle.lisp_forms.specs.Flat.{flat}
 use Rattle.lisp_forms.specs.Program.{before, earlier, first_refusal, function_places, most_functions, past_limit, refusal_of}
@@ -97,11 +98,6 @@ not_before q = by (nat_lt q q) refl
 before-less : (q : ℕ) (xs ys : List ℕ) → before q (xs ++ (q ∷ ys)) < length (xs ++ (q ∷ ys))
 before-less q xs ys =
     omega (arith, before-append q xs (q ∷ ys), before-first q q ys, not_before q, before-few q xs, before-few q ys, length-append xs (q ∷ ys))
-
--- the second of two
-other_of : (t : Bool) (x y : Option ℕ) → t ≡ false → (if t then x else y) ≡ y
-other_of true x y h = cc
-other_of false x y h = refl
 
 -- where there are no more places than there may be, none is past the limit
 no_limit : (xs ys : List ℕ) → length (xs ++ ys) ≤ most_functions → past_limit (xs ++ ys) ys ≡ None

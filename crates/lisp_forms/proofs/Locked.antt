@@ -3,22 +3,22 @@ use Rattle.std.proofs.Common.{◌≡◌, ℕ, suc, ◌+◌, List, [], ◌∷◌,
 use Rattle.lisp_base.specs.Forest.{NoTrees, count_of}
 use Rattle.lisp_program.specs.declared.form.CoreKind.TheVariants as k
 use Rattle.lisp_program.specs.declared.function.Service.TheVariants as service
-use Rattle.lisp_reader.specs.Data.{Data, behind, count_of as data_in}
-use Rattle.lisp_forms.specs.declared.expanded.Expanded.TheVariants.{Form}
-use Rattle.lisp_forms.specs.declared.expanded.ExpandedNode.{ExpandedNode}
-use Rattle.lisp_forms.specs.declared.keywords.Roles.{Roles}
-use Rattle.lisp_forms.specs.declared.keywords.Roles.TheVariants.{From, Values}
-use Rattle.lisp_forms.specs.declared.levels.Numbered.{Numbered}
+use Rattle.lisp_data.specs.Data.{Data, behind, count_of as data_in}
+use Rattle.form_shapes.specs.declared.expanded.Expanded.TheVariants.{Form}
+use Rattle.form_shapes.specs.declared.expanded.ExpandedNode.{ExpandedNode}
+use Rattle.form_shapes.specs.declared.keywords.Roles.{Roles}
+use Rattle.form_shapes.specs.declared.keywords.Roles.TheVariants.{From, Values}
+use Rattle.form_shapes.specs.declared.levels.Numbered.{Numbered}
+use Rattle.form_shapes.specs.declared.scope.Base.{Base}
+use Rattle.form_shapes.specs.Bindings.{body_of}
+use Rattle.form_shapes.specs.Contexts.{scope_at}
+use Rattle.form_shapes.specs.Keywords.{parts_of}
+use Rattle.form_shapes.specs.One.{items_first}
+use Rattle.form_shapes.specs.Scopes.{Scope, deeper}
 use Rattle.lisp_forms.specs.declared.locks.Lock.{Lock}
-use Rattle.lisp_forms.specs.declared.scope.Base.{Base}
-use Rattle.lisp_forms.specs.Bindings.{body_of}
-use Rattle.lisp_forms.specs.Contexts.{scope_at}
 use Rattle.lisp_forms.specs.Expansion.{body_in, by_roles, forms_in, in_lock, within_first}
 use Rattle.lisp_forms.specs.Flat.{flat, flat_one, node}
-use Rattle.lisp_forms.specs.Keywords.{parts_of}
-use Rattle.lisp_forms.specs.One.{items_first}
 use Rattle.lisp_forms.specs.Rows.{either, grabbing, held_form, if_form, local, local_form, lock_form, locked, mutex_form, release_form, timeout_form, timer_form}
-use Rattle.lisp_forms.specs.Scopes.{Scope, deeper}
 use Rattle.lisp_forms.specs.Trees.{Expansion, Single, both, first, form, in_front, nil_form, only, others, progn_form}
 use Rattle.lisp_forms.specs.Written.{either_nodes, grab_nodes, lock_of, locked_nodes, region_nodes}
 use Rattle.lisp_forms.proofs.Bodied.{body-is, one-of, three-of, three_steps, two-of}

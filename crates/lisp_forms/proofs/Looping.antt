@@ -3,19 +3,19 @@ use Rattle.std.proofs.Common.{◌≡◌, ℕ, suc, pos, ◌+◌, List, [], ◌�
 use Rattle.lisp_base.specs.Forest.{count_of}
 use Rattle.lisp_program.specs.declared.form.CoreKind.{CoreKind}
 use Rattle.lisp_program.specs.declared.form.CoreKind.TheVariants.{BindLocal, Block as BlockForm, Let, While}
-use Rattle.lisp_reader.specs.Data.{Data, behind, count_of as data_in}
-use Rattle.lisp_forms.specs.declared.expanded.Expanded.TheVariants.{Form}
-use Rattle.lisp_forms.specs.declared.expanded.ExpandedNode.{ExpandedNode}
-use Rattle.lisp_forms.specs.declared.keywords.Roles.TheVariants.{From}
-use Rattle.lisp_forms.specs.declared.levels.Level.TheVariants.{Block}
-use Rattle.lisp_forms.specs.declared.scope.Opened.{Opened}
-use Rattle.lisp_forms.specs.Bindings.{body_of, opened_by}
-use Rattle.lisp_forms.specs.Contexts.{with_opened}
+use Rattle.lisp_data.specs.Data.{Data, behind, count_of as data_in}
+use Rattle.form_shapes.specs.declared.expanded.Expanded.TheVariants.{Form}
+use Rattle.form_shapes.specs.declared.expanded.ExpandedNode.{ExpandedNode}
+use Rattle.form_shapes.specs.declared.keywords.Roles.TheVariants.{From}
+use Rattle.form_shapes.specs.declared.levels.Level.TheVariants.{Block}
+use Rattle.form_shapes.specs.declared.scope.Opened.{Opened}
+use Rattle.form_shapes.specs.Bindings.{body_of, opened_by}
+use Rattle.form_shapes.specs.Contexts.{with_opened}
+use Rattle.form_shapes.specs.One.{items_first}
+use Rattle.form_shapes.specs.Scopes.{Scope, inside}
 use Rattle.lisp_forms.specs.Expansion.{body_in, forms_in, in_dotimes, in_turn, result_of, within_first}
 use Rattle.lisp_forms.specs.Flat.{flat, flat_one, node}
-use Rattle.lisp_forms.specs.One.{items_first}
 use Rattle.lisp_forms.specs.Rows.{bind_kind, blocked, dotimes_form, loop_form, lowered, more_form, number_form, result_form, returns_to, step_form, true_form, turn_form, turns_form}
-use Rattle.lisp_forms.specs.Scopes.{Scope, inside}
 use Rattle.lisp_forms.specs.Trees.{Expansion, Single, both, first, form, in_front, only, second, three}
 use Rattle.lisp_forms.specs.Written.{turn_head}
 use Rattle.lisp_forms.proofs.Parts.{body-forms, count-forms, last_step, others-forms, roles-from_0, two_steps, within-items}

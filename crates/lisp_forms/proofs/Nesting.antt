@@ -4,26 +4,27 @@ use Rattle.std.proofs.lemmas.List.{drop_all}
 use Rattle.lisp_base.specs.Forest.{count_of}
 use Rattle.lisp_program.specs.declared.form.CoreKind.{CoreKind}
 use Rattle.lisp_program.specs.declared.form.CoreKind.TheVariants.{Let}
-use Rattle.lisp_reader.specs.declared.items.First.{First}
-use Rattle.lisp_reader.specs.declared.items.First.TheVariants.{Leaf as LeafFirst, List as ListFirst}
-use Rattle.lisp_reader.specs.Data.{Data, NoData, Atom, Listed, behind, count_of as data_in}
-use Rattle.lisp_reader.specs.First.{with_first}
-use Rattle.lisp_forms.specs.declared.expanded.Expanded.TheVariants.{Form}
-use Rattle.lisp_forms.specs.declared.expanded.ExpandedNode.{ExpandedNode}
-use Rattle.lisp_forms.specs.declared.keywords.Roles.TheVariants.{From}
-use Rattle.lisp_forms.specs.declared.scope.Opened.{Opened}
-use Rattle.lisp_forms.specs.Bindings.{and_others, body_of, bound_in, bound_in_list, opened, opened_by, or_none}
-use Rattle.lisp_forms.specs.Contexts.{with_opened}
+use Rattle.lisp_data.specs.declared.items.First.{First}
+use Rattle.lisp_data.specs.declared.items.First.TheVariants.{Leaf as LeafFirst, List as ListFirst}
+use Rattle.lisp_data.specs.Data.{Data, NoData, Atom, Listed, behind, count_of as data_in}
+use Rattle.lisp_data.specs.First.{with_first}
+use Rattle.form_shapes.specs.declared.expanded.Expanded.TheVariants.{Form}
+use Rattle.form_shapes.specs.declared.expanded.ExpandedNode.{ExpandedNode}
+use Rattle.form_shapes.specs.declared.keywords.Roles.TheVariants.{From}
+use Rattle.form_shapes.specs.declared.scope.Opened.{Opened}
+use Rattle.form_shapes.specs.Bindings.{and_others, body_of, bound_in, bound_in_list, opened, opened_by, or_none}
+use Rattle.form_shapes.specs.Contexts.{with_opened}
+use Rattle.form_shapes.specs.One.{bound_by, items_first, let_variables}
+use Rattle.form_shapes.specs.Scopes.{Scope, leaf_symbol}
+use Rattle.form_shapes.specs.Sizes.{size_of}
+use Rattle.form_shapes.proofs.Openings.{next_of}
 use Rattle.lisp_forms.specs.Expansion.{behind_variable, body_in, by_roles, forms_in, turn_first, turns_in}
 use Rattle.lisp_forms.specs.Flat.{flat, flat_one, node}
-use Rattle.lisp_forms.specs.One.{bound_by, bound_value, items_first, let_variables}
+use Rattle.lisp_forms.specs.Firsts.{bound_value}
 use Rattle.lisp_forms.specs.Rows.{bind_form, bind_kind, let_star_form, nested}
-use Rattle.lisp_forms.specs.Scopes.{Scope, leaf_symbol}
-use Rattle.lisp_forms.specs.Sizes.{size_of}
 use Rattle.lisp_forms.specs.Trees.{Expansion, Single, both, first, form, in_front, nil_form, only, others}
 use Rattle.lisp_forms.specs.Written.{turn, turn_nodes, turn_parts}
 use Rattle.lisp_forms.proofs.Letting.{body-opened}
-use Rattle.lisp_forms.proofs.Openings.{next_of}
 use Rattle.lisp_forms.proofs.Parts.{count-forms, last_step, two_steps}
 
 -- a variable and others

@@ -2,22 +2,23 @@
 use Rattle.std.proofs.lemmas.Bool.Decides.{nat_tests}
 use Rattle.std.proofs.Common.{◌≡◌, ℕ, zero, suc, ◌+◌, ◌≤◌, nat_lt, not, List, ◌++◌, Bool, true, false, cond, OnOk, Result, Ok, Err, refl, ap, ◌∙◌, arith, append_assoc}
 use Rattle.lisp_base.specs.Forest.{NoTrees, Tree, count_of, joined}
-use Rattle.lisp_reader.specs.declared.items.First.{First}
-use Rattle.lisp_reader.specs.declared.items.First.TheVariants.{Leaf as LeafFirst, List as ListFirst}
-use Rattle.lisp_reader.specs.Data.{Data, NoData, Atom, Listed, behind, count_of as data_in}
-use Rattle.lisp_reader.specs.First.{with_first}
-use Rattle.lisp_forms.specs.declared.expanded.ExpandedNode.{ExpandedNode}
-use Rattle.lisp_forms.specs.declared.keywords.Role.{Role}
-use Rattle.lisp_forms.specs.declared.keywords.Role.TheVariants.{Value, Place, Skipped}
-use Rattle.lisp_forms.specs.declared.keywords.Roles.{Roles}
-use Rattle.lisp_forms.specs.declared.keywords.Roles.TheVariants.{From}
-use Rattle.lisp_forms.specs.Bindings.{body_of, is_declaration}
+use Rattle.lisp_data.specs.declared.items.First.{First}
+use Rattle.lisp_data.specs.declared.items.First.TheVariants.{Leaf as LeafFirst, List as ListFirst}
+use Rattle.lisp_data.specs.Data.{Data, NoData, Atom, Listed, behind, count_of as data_in}
+use Rattle.lisp_data.specs.First.{with_first}
+use Rattle.form_shapes.specs.declared.expanded.ExpandedNode.{ExpandedNode}
+use Rattle.form_shapes.specs.declared.keywords.Role.{Role}
+use Rattle.form_shapes.specs.declared.keywords.Role.TheVariants.{Value, Place, Skipped}
+use Rattle.form_shapes.specs.declared.keywords.Roles.{Roles}
+use Rattle.form_shapes.specs.declared.keywords.Roles.TheVariants.{From}
+use Rattle.form_shapes.specs.Bindings.{body_of, is_declaration}
+use Rattle.form_shapes.specs.Keywords.{counted, parts_of, role_at, value_if}
+use Rattle.form_shapes.specs.One.{items_first}
+use Rattle.form_shapes.specs.Places.{misplaced_kind}
+use Rattle.form_shapes.specs.Scopes.{Scope, leaf_form}
 use Rattle.lisp_forms.specs.Expansion.{body_in, by_roles, forms_in, leaf_single, listed, placed, with_role, within_first}
 use Rattle.lisp_forms.specs.Flat.{flat}
-use Rattle.lisp_forms.specs.Keywords.{counted, parts_of, role_at, value_if}
-use Rattle.lisp_forms.specs.One.{first_form, items_first}
-use Rattle.lisp_forms.specs.Places.{misplaced_kind}
-use Rattle.lisp_forms.specs.Scopes.{Scope, leaf_form}
+use Rattle.lisp_forms.specs.Firsts.{first_form}
 use Rattle.lisp_forms.specs.Trees.{Expansion, Single, in_front, leaf, others}
 
 -- the forms of a first datum and of others

@@ -1,10 +1,10 @@
 -- Bindings of special parameters, one by one.
 use Rattle.std.proofs.Common.{◌≡◌, ℕ, suc, ◌+◌, ◌<◌, List, [], ◌∷◌, ◌++◌, Bool, true, false, if◌then◌else◌, length, get_or, drop, refl, ap, sym, ◌∙◌, append_assoc, add-one, drop-cons}
 use Rattle.lisp_program.specs.declared.form.CoreKind.TheVariants.{BindSpecial, Let, Local}
-use Rattle.lisp_forms.specs.declared.expanded.Expanded.TheVariants.{Form}
-use Rattle.lisp_forms.specs.declared.expanded.ExpandedNode.{ExpandedNode}
+use Rattle.form_shapes.specs.declared.expanded.Expanded.TheVariants.{Form}
+use Rattle.form_shapes.specs.declared.expanded.ExpandedNode.{ExpandedNode}
+use Rattle.form_shapes.specs.Scopes.{has}
 use Rattle.lisp_forms.specs.Flat.{node}
-use Rattle.lisp_forms.specs.Scopes.{has}
 use Rattle.lisp_forms.specs.Written.{special_node, special_nodes, special_parts}
 
 -- three nodes, or none, in front of others

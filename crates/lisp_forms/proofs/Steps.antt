@@ -4,25 +4,26 @@ use Rattle.lisp_base.specs.Forest.{NoTrees, Tree, count_of, joined}
 use Rattle.lisp_program.specs.declared.form.CoreKind.{CoreKind}
 use Rattle.lisp_program.specs.declared.form.CoreKind.TheVariants as k
 use Rattle.lisp_program.specs.declared.function.Primitive.{Primitive}
-use Rattle.lisp_reader.specs.declared.items.First.{First}
-use Rattle.lisp_reader.specs.declared.items.First.TheVariants.{Leaf as LeafFirst, List as ListFirst}
-use Rattle.lisp_reader.specs.Data.{Data, NoData, Atom, Listed, behind, count_of as data_in}
-use Rattle.lisp_reader.specs.First.{with_first}
-use Rattle.lisp_forms.specs.declared.expanded.Expanded.TheVariants.{Form}
-use Rattle.lisp_forms.specs.declared.expanded.ExpandedNode.{ExpandedNode}
-use Rattle.lisp_forms.specs.declared.keywords.Role.{Role}
-use Rattle.lisp_forms.specs.declared.keywords.Role.TheVariants.{Value, Place, Skipped}
-use Rattle.lisp_forms.specs.declared.keywords.Roles.{Roles}
-use Rattle.lisp_forms.specs.declared.scope.Target.{Target}
-use Rattle.lisp_forms.specs.Bindings.{body_of}
+use Rattle.lisp_data.specs.declared.items.First.{First}
+use Rattle.lisp_data.specs.declared.items.First.TheVariants.{Leaf as LeafFirst, List as ListFirst}
+use Rattle.lisp_data.specs.Data.{Data, NoData, Atom, Listed, behind, count_of as data_in}
+use Rattle.lisp_data.specs.First.{with_first}
+use Rattle.form_shapes.specs.declared.expanded.Expanded.TheVariants.{Form}
+use Rattle.form_shapes.specs.declared.expanded.ExpandedNode.{ExpandedNode}
+use Rattle.form_shapes.specs.declared.keywords.Role.{Role}
+use Rattle.form_shapes.specs.declared.keywords.Role.TheVariants.{Value, Place, Skipped}
+use Rattle.form_shapes.specs.declared.keywords.Roles.{Roles}
+use Rattle.form_shapes.specs.declared.scope.Target.{Target}
+use Rattle.form_shapes.specs.Bindings.{body_of}
+use Rattle.form_shapes.specs.Keywords.{role_at}
+use Rattle.form_shapes.specs.One.{let_variables}
+use Rattle.form_shapes.specs.Scopes.{Scope, deeper, read_kind, set_kind, with_open}
+use Rattle.form_shapes.specs.Shapes.{shape_of}
+use Rattle.form_shapes.specs.Sizes.{size_of}
 use Rattle.lisp_forms.specs.Expansion.{body_in, by_roles, conds_in, forms_in, list_form, listed, ors_in, parts_in, with_role}
 use Rattle.lisp_forms.specs.Flat.{flat, flat_one, node, repeated}
-use Rattle.lisp_forms.specs.Keywords.{role_at}
-use Rattle.lisp_forms.specs.One.{first_form, first_placed, let_variables}
+use Rattle.lisp_forms.specs.Firsts.{first_form, first_placed}
 use Rattle.lisp_forms.specs.Rows
-use Rattle.lisp_forms.specs.Scopes.{Scope, deeper, read_kind, set_kind, with_open}
-use Rattle.lisp_forms.specs.Shapes.{shape_of}
-use Rattle.lisp_forms.specs.Sizes.{size_of}
 use Rattle.lisp_forms.specs.Trees.{Expansion, Single, first, form, in_front, nil_form, only, others, progn_form}
 use Rattle.lisp_forms.specs.Written.{and_front, clause_nodes, either_nodes}
 use Rattle.lisp_forms.proofs.Parts.{body-forms, count-forms, count-joined, flat-joined, forms-first, last_step, others-forms, two_steps}

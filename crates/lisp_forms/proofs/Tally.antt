@@ -1,14 +1,14 @@
 -- How many clauses and pairs there are, one by one.
 use Rattle.std.proofs.Common.{◌≡◌, ℕ, suc, ◌+◌, ◌≤◌, refl, ap, ◌∙◌, arith, false, true}
 use Rattle.lisp_base.specs.Forest.{count_of}
-use Rattle.lisp_reader.specs.Data.{Data, NoData, count_of as data_in}
-use Rattle.lisp_reader.specs.First.{with_first}
-use Rattle.lisp_reader.specs.declared.items.First.{First}
-use Rattle.lisp_reader.specs.declared.items.First.TheVariants.{Leaf as LeafFirst, List as ListFirst}
+use Rattle.lisp_data.specs.Data.{Data, NoData, count_of as data_in}
+use Rattle.lisp_data.specs.First.{with_first}
+use Rattle.lisp_data.specs.declared.items.First.{First}
+use Rattle.lisp_data.specs.declared.items.First.TheVariants.{Leaf as LeafFirst, List as ListFirst}
+use Rattle.form_shapes.specs.One.{is_list}
+use Rattle.form_shapes.specs.Scopes.{Scope}
+use Rattle.form_shapes.specs.Sizes.{size_of}
 use Rattle.lisp_forms.specs.Expansion.{clauses_in, pairs_in}
-use Rattle.lisp_forms.specs.One.{is_list}
-use Rattle.lisp_forms.specs.Scopes.{Scope}
-use Rattle.lisp_forms.specs.Sizes.{size_of}
 use Rattle.lisp_forms.specs.Written.{one_list}
 
 -- one in front of others is one more

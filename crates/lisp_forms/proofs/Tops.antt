@@ -2,19 +2,19 @@
 use Rattle.std.proofs.Common.{◌≡◌, ℕ, suc, ◌+◌, ◌<◌, List, [], ◌∷◌, ◌++◌, length, get_or, drop, OnOk, Result, Ok, Err, refl, ap, sym, ◌∙◌, append_assoc, add-one, drop-cons}
 use Rattle.lisp_base.specs.Forest.{count_of}
 use Rattle.lisp_base.specs.declared.memory.Memory.{Memory}
-use Rattle.lisp_reader.specs.Data.{Data, behind, count_of as data_in}
-use Rattle.lisp_forms.specs.declared.expanded.Expanded.TheVariants.{Defun}
-use Rattle.lisp_forms.specs.declared.expanded.ExpandedNode.{ExpandedNode}
-use Rattle.lisp_forms.specs.declared.shape.Shape.{Shape}
-use Rattle.lisp_forms.specs.declared.shape.Shape.TheVariants as shape
-use Rattle.lisp_forms.specs.Bindings.{function_body_of}
+use Rattle.lisp_data.specs.Data.{Data, behind, count_of as data_in}
+use Rattle.form_shapes.specs.declared.expanded.Expanded.TheVariants.{Defun}
+use Rattle.form_shapes.specs.declared.expanded.ExpandedNode.{ExpandedNode}
+use Rattle.form_shapes.specs.declared.shape.Shape.{Shape}
+use Rattle.form_shapes.specs.declared.shape.Shape.TheVariants as shape
+use Rattle.form_shapes.specs.Bindings.{function_body_of}
+use Rattle.form_shapes.specs.One.{let_variables}
+use Rattle.form_shapes.specs.Places.{parameters_in}
+use Rattle.form_shapes.specs.Scopes.{Scope}
 use Rattle.lisp_forms.specs.Expansion.{forms_in, function_body_in, list_form, parts_in}
 use Rattle.lisp_forms.specs.Flat.{flat, flat_one, node}
-use Rattle.lisp_forms.specs.One.{let_variables}
-use Rattle.lisp_forms.specs.Places.{parameters_in}
 use Rattle.lisp_forms.specs.Program.{Known, known_behind, scope_of_defun, top_form, top_forms, top_list_form}
 use Rattle.lisp_forms.specs.Rows.{blocked, defun_form}
-use Rattle.lisp_forms.specs.Scopes.{Scope}
 use Rattle.lisp_forms.specs.Trees.{Expansion}
 use Rattle.lisp_forms.specs.Written.{special_nodes, special_parts}
 use Rattle.lisp_forms.proofs.Parts.{count-forms}

@@ -4,23 +4,25 @@ use Rattle.lisp_base.specs.Forest.{NoTrees, Tree, joined}
 use Rattle.lisp_base.specs.declared.condition.Class.{Class}
 use Rattle.lisp_base.specs.declared.condition.Class.TheVariants.{Condition}
 use Rattle.lisp_program.specs.declared.form.CoreKind.TheVariants as k
-use Rattle.lisp_reader.specs.Data.{Data, NoData, Atom, Listed}
-use Rattle.lisp_reader.specs.declared.datum.Leaf.{Leaf}
-use Rattle.lisp_forms.specs.declared.keywords.Role.{Role}
-use Rattle.lisp_forms.specs.declared.keywords.Role.TheVariants.{Value, Place, Skipped}
-use Rattle.lisp_forms.specs.declared.keywords.Roles.{Roles}
-use Rattle.lisp_forms.specs.declared.keywords.Roles.TheVariants.{From, Values}
-use Rattle.lisp_forms.specs.declared.levels.Level.TheVariants.{Block, Region}
-use Rattle.lisp_forms.specs.declared.scope.Target.{Target}
-use Rattle.lisp_forms.specs.declared.shape.Shape.{Shape}
-use Rattle.lisp_forms.specs.declared.shape.Shape.TheVariants as shape
-use Rattle.lisp_forms.specs.Bindings.{bound_in_list, is_declaration, is_text, opened, opened_by, or_none, received_by, variables_of}
-use Rattle.lisp_forms.specs.Clauses.{class_of, clause_variable}
-use Rattle.lisp_forms.specs.Keywords.{role_at}
-use Rattle.lisp_forms.specs.Places.{misplaced_kind, parameters_in, placed_form, placed_of, scope_within}
+use Rattle.lisp_data.specs.Data.{Data, NoData, Atom, Listed}
+use Rattle.lisp_data.specs.declared.datum.Leaf.{Leaf}
+use Rattle.form_shapes.specs.declared.keywords.Role.{Role}
+use Rattle.form_shapes.specs.declared.keywords.Role.TheVariants.{Value, Place, Skipped}
+use Rattle.form_shapes.specs.declared.keywords.Roles.{Roles}
+use Rattle.form_shapes.specs.declared.keywords.Roles.TheVariants.{From, Values}
+use Rattle.form_shapes.specs.declared.levels.Level.TheVariants.{Block, Region}
+use Rattle.form_shapes.specs.declared.scope.Target.{Target}
+use Rattle.form_shapes.specs.declared.shape.Shape.{Shape}
+use Rattle.form_shapes.specs.declared.shape.Shape.TheVariants as shape
+use Rattle.form_shapes.specs.Bindings.{bound_in_list, is_declaration, is_text, opened, opened_by, or_none, received_by, variables_of}
+use Rattle.form_shapes.specs.Clauses.{class_of, clause_variable}
+use Rattle.form_shapes.specs.Keywords.{role_at}
+use Rattle.form_shapes.specs.declared.place.Placed.{Placed}
+use Rattle.form_shapes.specs.declared.place.Placed.TheVariants.{Made, Inner, Other}
+use Rattle.form_shapes.specs.Places.{misplaced_kind, parameters_in, placed_of, scope_within}
+use Rattle.form_shapes.specs.Scopes.{Scope, deeper, inside, leaf_form, leaf_symbol, target_in}
+use Rattle.form_shapes.specs.Shapes.{shape_of}
 use Rattle.lisp_forms.specs.Rows
-use Rattle.lisp_forms.specs.Scopes.{Scope, deeper, inside, leaf_form, leaf_symbol, target_of}
-use Rattle.lisp_forms.specs.Shapes.{shape_of}
 use Rattle.lisp_forms.specs.Trees.{Expansion, Single, in_front, only, leaf, form, nil_form, refused, first, others, second}
 
 -- The parts of a list that stand for forms, in each way in which some shape reads them: what a shape does not use does not
@@ -116,11 +118,6 @@ in_clause s (Some x) = received_by s x
 abbrev pub or_condition : Option Class → Class
 or_condition class = unwrap_or class Condition
 
--- the variable that a symbol is, where there is a symbol
-abbrev pub target_in : Scope → Option ℕ → Option Target
-target_in s None = None
-target_in s (Some x) = target_of s x
-
 -- there are none
 abbrev pub is_none : Data → Bool
 is_none NoData = true
@@ -136,6 +133,12 @@ abbrev pub with_role : Role → (value placed : Single) → Expansion → Expans
 with_role Value value placed fs = in_front value fs
 with_role Place value placed fs = in_front placed fs
 with_role Skipped value placed fs = fs
+
+-- what stands in a function's place, from the body of a `lambda` and what stands inside a `#'`
+abbrev pub placed_form : Scope → ℕ → Placed → List ℕ → (body : Expansion) → (inner : Single) → Single
+placed_form s p Made parameters body inner = Rows.lambda_form s p parameters body
+placed_form s p Inner parameters body inner = inner
+placed_form s p (Other kind) parameters body inner = leaf kind p
 
 abbrev mutual
   -- each of these as a form

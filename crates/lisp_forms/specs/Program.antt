@@ -8,25 +8,25 @@ use Rattle.lisp_program.specs.Points.{nil}
 use Rattle.lisp_program.specs.Program.{Function, Program}
 use Rattle.lisp_program.specs.declared.form.CoreKind.{CoreKind}
 use Rattle.lisp_program.specs.declared.form.CoreKind.TheVariants as k
-use Rattle.lisp_reader.specs.Data.{Data, NoData, Atom, Listed, behind, count_of}
-use Rattle.lisp_forms.specs.declared.expanded.Expanded.{Expanded}
-use Rattle.lisp_forms.specs.declared.expanded.Expanded.TheVariants.{Form, Lambda, Defun, Refused, RefusedFunction}
+use Rattle.lisp_data.specs.Data.{Data, NoData, Atom, Listed, behind, count_of}
+use Rattle.lisp_operators.specs.declared.operator.Operator.{Operator}
+use Rattle.lisp_operators.specs.declared.operator.Operator.TheVariants as op
+use Rattle.lisp_operators.specs.Operators.{operator_named}
+use Rattle.form_shapes.specs.declared.expanded.Expanded.{Expanded}
+use Rattle.form_shapes.specs.declared.expanded.Expanded.TheVariants.{Form, Lambda, Defun, Refused, RefusedFunction}
+use Rattle.form_shapes.specs.declared.keywords.Roles.TheVariants.{Just}
+use Rattle.form_shapes.specs.declared.refusal.ExpandRefusal.{ExpandRefusal}
+use Rattle.form_shapes.specs.declared.refusal.ExpandRefusal.TheVariants.{Refused as RefusedProgram, Memory}
+use Rattle.form_shapes.specs.declared.levels.Level.TheVariants.{Block}
+use Rattle.form_shapes.specs.declared.shape.Shape.{Shape}
+use Rattle.form_shapes.specs.declared.shape.Shape.TheVariants as shape
+use Rattle.form_shapes.specs.Bindings.{is_text_first, list_fault, or_none, parameters_of, variables_of}
+use Rattle.form_shapes.specs.Places.{parameters_in, scope_within}
+use Rattle.form_shapes.specs.Scopes.{Scope, as_variable, first_symbol, has, inside, name_of}
+use Rattle.form_shapes.specs.Shapes.{shape_of}
 use Rattle.lisp_forms.specs.declared.expander.Refusal.{Refusal}
-use Rattle.lisp_forms.specs.declared.keywords.Roles.TheVariants.{Just}
-use Rattle.lisp_forms.specs.declared.operator.Operator.{Operator}
-use Rattle.lisp_forms.specs.declared.operator.Operator.TheVariants as op
-use Rattle.lisp_forms.specs.declared.refusal.ExpandRefusal.{ExpandRefusal}
-use Rattle.lisp_forms.specs.declared.refusal.ExpandRefusal.TheVariants.{Refused as RefusedProgram, Memory}
-use Rattle.lisp_forms.specs.declared.levels.Level.TheVariants.{Block}
-use Rattle.lisp_forms.specs.declared.shape.Shape.{Shape}
-use Rattle.lisp_forms.specs.declared.shape.Shape.TheVariants as shape
-use Rattle.lisp_forms.specs.Bindings.{is_text_first, list_fault, or_none, parameters_of, variables_of}
 use Rattle.lisp_forms.specs.Expansion.{function_body_in, leaf_single, list_form, parts_in}
-use Rattle.lisp_forms.specs.Operators.{operator_named}
-use Rattle.lisp_forms.specs.Places.{parameters_in, scope_within}
 use Rattle.lisp_forms.specs.Rows.{defun_form, is_function}
-use Rattle.lisp_forms.specs.Scopes.{Scope, as_variable, first_symbol, has, inside, name_of}
-use Rattle.lisp_forms.specs.Shapes.{shape_of}
 use Rattle.lisp_forms.specs.Trees.{Expansion, Single, in_front, refused}
 
 -- what stands in front of a list, whatever the program defines

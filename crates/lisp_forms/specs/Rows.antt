@@ -10,11 +10,11 @@ use Rattle.lisp_program.specs.declared.form.CoreKind.TheVariants as k
 use Rattle.lisp_program.specs.declared.function.Primitive.{Primitive}
 use Rattle.lisp_program.specs.declared.function.Primitive.TheVariants as f
 use Rattle.lisp_program.specs.declared.function.Service.TheVariants as service
-use Rattle.lisp_forms.specs.declared.expanded.Expanded.{Expanded}
-use Rattle.lisp_forms.specs.declared.expanded.Expanded.TheVariants.{Form, Lambda, Defun, Refused, RefusedFunction}
-use Rattle.lisp_forms.specs.declared.scope.Target.{Target}
-use Rattle.lisp_forms.specs.Bindings.{opened_by}
-use Rattle.lisp_forms.specs.Scopes.{Scope, constant, has, read_kind, set_kind}
+use Rattle.form_shapes.specs.declared.expanded.Expanded.{Expanded}
+use Rattle.form_shapes.specs.declared.expanded.Expanded.TheVariants.{Form, Lambda, Defun, Refused, RefusedFunction}
+use Rattle.form_shapes.specs.declared.scope.Target.{Target}
+use Rattle.form_shapes.specs.Bindings.{opened_by}
+use Rattle.form_shapes.specs.Scopes.{Scope, constant, has, read_kind, set_kind}
 use Rattle.lisp_forms.specs.Trees.{Expansion, Single, in_front, only, both, three, leaf, form, nil_form, progn_form, first, others}
 
 -- a variable with this number

@@ -4,8 +4,8 @@ use Rattle.lisp_base.specs.Forest.{Forest, NoTrees, Tree}
 use Rattle.lisp_program.specs.Points.{nil}
 use Rattle.lisp_program.specs.declared.form.CoreKind.{CoreKind}
 use Rattle.lisp_program.specs.declared.form.CoreKind.TheVariants.{Constant, Progn}
-use Rattle.lisp_forms.specs.declared.expanded.Expanded.{Expanded}
-use Rattle.lisp_forms.specs.declared.expanded.Expanded.TheVariants.{Form, Refused}
+use Rattle.form_shapes.specs.declared.expanded.Expanded.{Expanded}
+use Rattle.form_shapes.specs.declared.expanded.Expanded.TheVariants.{Form, Refused}
 
 -- forms beside one another, with what is refused of them in its place
 abbrev pub Expansion : Type 0

@@ -8,19 +8,19 @@ use Rattle.lisp_program.specs.declared.form.CoreKind.{CoreKind}
 use Rattle.lisp_program.specs.declared.form.CoreKind.TheVariants as k
 use Rattle.lisp_program.specs.declared.form.FormNode.{FormNode}
 use Rattle.lisp_program.specs.declared.function.Service.TheVariants as service
-use Rattle.lisp_reader.specs.Data.{Data, NoData, Atom, Listed}
-use Rattle.lisp_reader.specs.declared.items.First.{First}
-use Rattle.lisp_reader.specs.declared.items.First.TheVariants.{Leaf as LeafFirst, List as ListFirst}
-use Rattle.lisp_forms.specs.declared.expanded.Expanded.TheVariants.{Form}
-use Rattle.lisp_forms.specs.declared.expanded.ExpandedNode.{ExpandedNode}
-use Rattle.lisp_forms.specs.declared.keywords.Roles.TheVariants.{From}
+use Rattle.lisp_data.specs.Data.{Data, NoData, Atom, Listed}
+use Rattle.lisp_data.specs.declared.items.First.{First}
+use Rattle.lisp_data.specs.declared.items.First.TheVariants.{Leaf as LeafFirst, List as ListFirst}
+use Rattle.form_shapes.specs.declared.expanded.Expanded.TheVariants.{Form}
+use Rattle.form_shapes.specs.declared.expanded.ExpandedNode.{ExpandedNode}
+use Rattle.form_shapes.specs.declared.keywords.Roles.TheVariants.{From}
+use Rattle.form_shapes.specs.Bindings.{bound_in_list, opened_by}
+use Rattle.form_shapes.specs.Scopes.{Scope, has, leaf_symbol}
 use Rattle.lisp_forms.specs.declared.locks.Lock.{Lock}
-use Rattle.lisp_forms.specs.Bindings.{bound_in_list, opened_by}
 use Rattle.lisp_forms.specs.Expansion.{behind_variable, by_roles, is_none}
 use Rattle.lisp_forms.specs.Flat.{flat, flat_one, node}
 use Rattle.lisp_forms.specs.Program.{core_kind, with_function}
 use Rattle.lisp_forms.specs.Rows.{bind_kind, is_function, is_return_to, lowered_kind, release_form}
-use Rattle.lisp_forms.specs.Scopes.{Scope, has, leaf_symbol}
 use Rattle.lisp_forms.specs.Trees.{Expansion, Single, first, nil_form, progn_form}
 
 -- what `or` and `cond` write for a form in front of what is done where its value is NIL

@@ -5,8 +5,8 @@ ghost use Rattle.lisp_forms.specs.Rows;
 ghost use Rattle.lisp_forms.specs.Trees.{Expansion};
 ghost use Rattle.lisp_forms.specs.Written.{leaves_here, lowered_node, skipped_behind as behind_node};
 
-use crate::expanded::{Expanded, ExpandedNode};
 use crate::nodes::{push_form, push_node};
+use form_shapes::expanded::{Expanded, ExpandedNode};
 use lisp_base::id::Place;
 use lisp_base::memory::Memory;
 use lisp_program::form::CoreKind;

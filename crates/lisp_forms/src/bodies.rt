@@ -1,29 +1,29 @@
 ghost use Rattle.std.specs.Prelude.{◌≡◌, ◌++◌, ℕ, ◌<◌, ◌^◌, OnOk, Some};
 ghost use Rattle.lisp_base.specs.Forest.{count_of, joined};
-ghost use Rattle.lisp_forms.specs.Contexts.{scope_at};
+ghost use Rattle.form_shapes.specs.Contexts.{scope_at};
+ghost use Rattle.form_shapes.specs.Scopes.{Scope, inside as inside_of};
+ghost use Rattle.form_shapes.specs.Bindings.{received_by};
 ghost use Rattle.lisp_forms.specs.Expansion.{body_in, clauses_behind, clause_in, clauses_in, forms_in, within_first};
 ghost use Rattle.lisp_forms.specs.Flat.{flat, flat_one};
 ghost use Rattle.lisp_forms.specs.Rows;
-ghost use Rattle.lisp_forms.specs.Scopes.{Scope, inside as inside_of};
-ghost use Rattle.lisp_forms.specs.Bindings.{received_by};
 ghost use Rattle.lisp_forms.specs.Trees.{first as first_of, form, in_front};
 ghost use Rattle.lisp_forms.specs.Written.{one_list};
 
-use crate::bindings::{body_of, items_first};
-use crate::clause::{class_of, clause_variable};
 use crate::expand::{push_all, push_by_roles, push_head};
-use crate::expanded::ExpandedNode;
-use crate::keywords::{Roles, parts_of};
-use crate::levels::{Level, Levels};
 use crate::nodes::{push_form, push_local, push_nil};
-use crate::scope::{Base, has};
-use crate::single::{is_list, rest, symbol_by};
-use crate::within::{clause_within, level_within};
+use form_shapes::bindings::{body_of, items_first};
+use form_shapes::clause::{class_of, clause_variable};
+use form_shapes::expanded::ExpandedNode;
+use form_shapes::keywords::{Roles, parts_of};
+use form_shapes::levels::{Level, Levels};
+use form_shapes::scope::{Base, has};
+use form_shapes::single::{is_list, rest, symbol_by};
+use form_shapes::within::{clause_within, level_within};
 use lisp_base::condition::Class;
 use lisp_base::id::{Place, SymbolId};
 use lisp_base::memory::Memory;
+use lisp_data::items::{First, Items};
 use lisp_program::form::CoreKind;
-use lisp_reader::items::{First, Items};
 use std::alloc::Global;
 
 /// Writes a form of this kind with a body under it.

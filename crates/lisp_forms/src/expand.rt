@@ -1,29 +1,30 @@
 ghost use Rattle.std.specs.Prelude.{◌≡◌, ◌++◌, OnOk};
-ghost use Rattle.lisp_forms.specs.Contexts.{scope_at};
+ghost use Rattle.form_shapes.specs.Contexts.{scope_at};
+ghost use Rattle.form_shapes.specs.One.{let_variables};
+ghost use Rattle.form_shapes.specs.Places.{parameters_in as parameters_of, scope_within};
 ghost use Rattle.lisp_forms.specs.Expansion.{by_roles, forms_in, function_body_in, list_form, listed, parts_in, placed as placed_in, placed_first};
 ghost use Rattle.lisp_forms.specs.Flat.{flat, flat_one};
-ghost use Rattle.lisp_forms.specs.One.{first_form, first_placed, let_variables};
-ghost use Rattle.lisp_forms.specs.Places.{parameters_in as parameters_of, scope_within};
+ghost use Rattle.lisp_forms.specs.Firsts.{first_form, first_placed};
 ghost use Rattle.lisp_forms.specs.Rows.{lambda_form};
 ghost use Rattle.lisp_forms.specs.Trees.{first as first_of, form};
 
-use crate::bindings::{function_body_of, parameters_in};
-use crate::expanded::{Expanded, ExpandedNode};
-use crate::keywords::{Role, Roles, parts_of, role_at};
-use crate::levels::Levels;
 use crate::nodes::{push_form, push_nil, push_node};
-use crate::place::{Placed, misplaced_kind};
-use crate::refusal::BAD_FORM;
-use crate::scope::Base;
-use crate::shape::Shape;
-use crate::single::rest;
 use crate::special::{push_specials, special_parts};
-use crate::within::{leaf_within, placed_within, received_within, shape_within};
 use crate::{bodies, lets, locks, loops, rows};
+use form_shapes::bindings::{function_body_of, parameters_in};
+use form_shapes::expanded::{Expanded, ExpandedNode};
+use form_shapes::keywords::{Role, Roles, parts_of, role_at};
+use form_shapes::levels::Levels;
+use form_shapes::place::{Placed, misplaced_kind};
+use form_shapes::refusal::BAD_FORM;
+use form_shapes::scope::Base;
+use form_shapes::shape::Shape;
+use form_shapes::single::rest;
+use form_shapes::within::{leaf_within, placed_within, received_within, shape_within};
 use lisp_base::id::Place;
 use lisp_base::memory::Memory;
+use lisp_data::items::{First, Items};
 use lisp_program::form::CoreKind;
-use lisp_reader::items::{First, Items};
 use std::alloc::Global;
 
 /// Writes each of these as a form.

@@ -1,25 +1,26 @@
 ghost use Rattle.std.specs.Prelude.{◌≡◌, ◌++◌, ◌<◌, ◌^◌, IfOk, OnOk, Some, length};
-ghost use Rattle.lisp_forms.specs.Bindings.{bound_in, opened as opened_of};
-ghost use Rattle.lisp_forms.specs.Contexts.{scope_at};
+ghost use Rattle.form_shapes.specs.Bindings.{bound_in, opened as opened_of};
+ghost use Rattle.form_shapes.specs.Contexts.{scope_at};
+ghost use Rattle.form_shapes.specs.One.{let_variables};
+ghost use Rattle.form_shapes.specs.Scopes.{Scope};
 ghost use Rattle.lisp_forms.specs.Expansion.{body_in, turn_first, values_first, values_in};
 ghost use Rattle.lisp_forms.specs.Flat.{flat, flat_one};
 ghost use Rattle.lisp_forms.specs.Written.{bind_nodes, forms_under, number_behind, turn_nodes, turn_parts};
-ghost use Rattle.lisp_forms.specs.One.{bound_value, let_variables};
+ghost use Rattle.lisp_forms.specs.Firsts.{bound_value};
 ghost use Rattle.lisp_forms.specs.Rows.{bind_kind as bind_kind_of, let_form, let_star_form};
-ghost use Rattle.lisp_forms.specs.Scopes.{Scope};
 
-use crate::bindings::{body_of, items_first, open_variable, variables_in};
 use crate::expand::{push_all, push_head};
-use crate::expanded::ExpandedNode;
-use crate::levels::{Levels, next};
 use crate::nodes::{push_form, push_nil};
-use crate::scope::{Base, has};
-use crate::single::rest;
-use crate::within::{open_within, opened_within};
+use form_shapes::bindings::{body_of, items_first, open_variable, variables_in};
+use form_shapes::expanded::ExpandedNode;
+use form_shapes::levels::{Levels, next};
+use form_shapes::scope::{Base, has};
+use form_shapes::single::rest;
+use form_shapes::within::{open_within, opened_within};
 use lisp_base::id::{Place, SymbolId};
 use lisp_base::memory::Memory;
+use lisp_data::items::{First, Items};
 use lisp_program::form::CoreKind;
-use lisp_reader::items::{First, Items};
 use std::alloc::Global;
 
 /// Writes a `let` with these arguments.

@@ -1,28 +1,28 @@
 ghost use Rattle.std.specs.Prelude.{◌≡◌, ◌++◌, IfOk, OnOk};
-ghost use Rattle.lisp_forms.specs.Contexts.{scope_at};
+ghost use Rattle.form_shapes.specs.Contexts.{scope_at};
+ghost use Rattle.form_shapes.specs.Scopes.{deeper};
 ghost use Rattle.lisp_forms.specs.Expansion.{body_in, forms_in, in_lock, within_first};
 ghost use Rattle.lisp_forms.specs.Flat.{flat_one};
 ghost use Rattle.lisp_forms.specs.Rows;
-ghost use Rattle.lisp_forms.specs.Scopes.{deeper};
 ghost use Rattle.lisp_forms.specs.Trees.{first as first_of, others};
 ghost use Rattle.lisp_forms.specs.Written.{either_nodes, grab_nodes, lock_of, locked_nodes, region_nodes};
 
-use crate::bindings::{body_of, items_first};
 use crate::expand::{push_all, push_by_roles, push_head};
-use crate::expanded::{Expanded, ExpandedNode};
-use crate::keywords::{Roles, parts_of};
-use crate::levels::{Levels, next};
 use crate::nodes::{push_form, push_local, push_nil, push_node};
 use crate::rows::push_progn;
-use crate::scope::Base;
-use crate::single::rest;
+use form_shapes::bindings::{body_of, items_first};
+use form_shapes::expanded::{Expanded, ExpandedNode};
+use form_shapes::keywords::{Roles, parts_of};
+use form_shapes::levels::{Levels, next};
+use form_shapes::scope::Base;
+use form_shapes::single::rest;
 use lisp_base::condition::{Class, Condition};
 use lisp_base::id::{Place, SymbolId};
 use lisp_base::memory::Memory;
 use lisp_base::value::Value;
+use lisp_data::items::Items;
 use lisp_program::form::CoreKind;
 use lisp_program::function::Service;
-use lisp_reader::items::Items;
 use std::alloc::Global;
 
 /// The numbers of the hidden variables of a lock, and of what its region remembers.

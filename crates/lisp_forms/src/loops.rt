@@ -1,28 +1,28 @@
 ghost use Rattle.std.specs.Prelude.{◌≡◌, ◌++◌, IfOk, OnOk};
-ghost use Rattle.lisp_forms.specs.Contexts.{scope_at, with_opened};
+ghost use Rattle.form_shapes.specs.Contexts.{scope_at, with_opened};
+ghost use Rattle.form_shapes.specs.Scopes.{inside as inside_of};
 ghost use Rattle.lisp_forms.specs.Expansion.{body_in, in_dotimes, in_turn, result_of, within_first};
 ghost use Rattle.lisp_forms.specs.Flat.{flat_one};
 ghost use Rattle.lisp_forms.specs.Rows;
-ghost use Rattle.lisp_forms.specs.Scopes.{inside as inside_of};
 ghost use Rattle.lisp_forms.specs.Trees.{second};
 ghost use Rattle.lisp_forms.specs.Written.{turn_head};
 
-use crate::bindings::{body_of, items_first, open_variable};
 use crate::blocks::push_blocked;
 use crate::expand::{push_all, push_head};
-use crate::expanded::ExpandedNode;
-use crate::keywords::Roles;
 use crate::lets::bind_kind;
-use crate::levels::{Level, Levels, next};
 use crate::nodes::{push_form, push_local, push_nil, push_number, push_true};
-use crate::scope::{Base, Opened};
-use crate::single::rest;
-use crate::within::level_within;
+use form_shapes::bindings::{body_of, items_first, open_variable};
+use form_shapes::expanded::ExpandedNode;
+use form_shapes::keywords::Roles;
+use form_shapes::levels::{Level, Levels, next};
+use form_shapes::scope::{Base, Opened};
+use form_shapes::single::rest;
+use form_shapes::within::level_within;
 use lisp_base::id::{Place, SymbolId};
 use lisp_base::memory::Memory;
+use lisp_data::items::Items;
 use lisp_program::form::CoreKind;
 use lisp_program::function::Primitive;
-use lisp_reader::items::Items;
 use std::alloc::Global;
 
 /// Writes a `loop` of these.

@@ -3,8 +3,8 @@ ghost use Rattle.lisp_forms.specs.Flat.{flat_one, node, repeated};
 ghost use Rattle.lisp_forms.specs.Rows;
 ghost use Rattle.lisp_forms.specs.Trees.{nil_form};
 
-use crate::expanded::{Expanded, ExpandedNode};
-use crate::scope::constant;
+use form_shapes::expanded::{Expanded, ExpandedNode};
+use form_shapes::scope::constant;
 use lisp_base::id::{Place, SymbolId};
 use lisp_base::memory::Memory;
 use lisp_base::value::{Node, Value};

@@ -1,33 +1,35 @@
 ghost use Rattle.std.specs.Prelude.{◌≡◌, ◌++◌, ℕ, OnOk};
 ghost use Rattle.lisp_base.specs.Forest.{count_of, joined};
-ghost use Rattle.lisp_forms.specs.Contexts.{scope_at};
-ghost use Rattle.lisp_forms.specs.Expansion.{body_in, by_roles, conds_in, forms_in, ors_in, pairs_in, target_in};
+ghost use Rattle.form_shapes.specs.Contexts.{scope_at};
+ghost use Rattle.form_shapes.specs.Scopes.{target_in};
+ghost use Rattle.form_shapes.specs.One.{place_by as place_of, symbol_by as symbol_of};
+ghost use Rattle.form_shapes.specs.Scopes.{Scope, deeper};
+ghost use Rattle.lisp_forms.specs.Expansion.{body_in, by_roles, conds_in, forms_in, ors_in, pairs_in};
 ghost use Rattle.lisp_forms.specs.Flat.{flat, flat_one};
 ghost use Rattle.lisp_forms.specs.Written.{clause_nodes, either_nodes};
-ghost use Rattle.lisp_forms.specs.One.{first_form, place_by as place_of, symbol_by as symbol_of};
+ghost use Rattle.lisp_forms.specs.Firsts.{first_form};
 ghost use Rattle.lisp_forms.specs.Rows;
-ghost use Rattle.lisp_forms.specs.Scopes.{Scope, deeper};
 ghost use Rattle.lisp_forms.specs.Trees.{first as first_of, form, nil_form, only, progn_form};
 
-use crate::bindings::body_of;
 use crate::expand::{push_all, push_by_roles, push_first, push_head};
-use crate::expanded::{Expanded, ExpandedNode};
-use crate::keywords::{Roles, parts_of};
-use crate::levels::{Levels, next};
 use crate::nodes::{
     push_form, push_forms, push_local, push_nil, push_node, push_number, push_true,
 };
-use crate::refusal::UNKNOWN_VARIABLE;
-use crate::scope::{Base, Target, read_kind, set_kind};
-use crate::single::{is_list, place_by, rest};
-use crate::within::target_within;
+use form_shapes::bindings::body_of;
+use form_shapes::expanded::{Expanded, ExpandedNode};
+use form_shapes::keywords::{Roles, parts_of};
+use form_shapes::levels::{Levels, next};
+use form_shapes::refusal::UNKNOWN_VARIABLE;
+use form_shapes::scope::{Base, Target, read_kind, set_kind};
+use form_shapes::single::{is_list, place_by, rest};
+use form_shapes::within::target_within;
 use lisp_base::condition::Class;
 use lisp_base::id::{FunctionName, Place};
 use lisp_base::memory::Memory;
 use lisp_base::value::Value;
+use lisp_data::items::{First, Items};
 use lisp_program::form::CoreKind;
 use lisp_program::function::{Primitive, Service};
-use lisp_reader::items::{First, Items};
 use std::alloc::Global;
 
 /// Writes a form of this kind with these under it, by what they are for, and NIL behind them.

@@ -1,12 +1,12 @@
 ghost use Rattle.std.specs.Prelude.{◌≡◌, ◌++◌, OnOk};
 ghost use Rattle.std.specs.List.{list_any};
-ghost use Rattle.lisp_forms.specs.Scopes.{has};
+ghost use Rattle.form_shapes.specs.Scopes.{has};
 ghost use Rattle.lisp_forms.specs.Written.{special_node, special_nodes, special_parts as parts_of_special};
 
-use crate::expanded::ExpandedNode;
-use crate::levels::next;
 use crate::nodes::{push_form, push_local};
-use crate::scope::has;
+use form_shapes::expanded::ExpandedNode;
+use form_shapes::levels::next;
+use form_shapes::scope::has;
 use lisp_base::id::{Place, SymbolId};
 use lisp_base::memory::Memory;
 use lisp_program::form::CoreKind;

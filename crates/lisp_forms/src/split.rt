@@ -1,14 +1,14 @@
 ghost use Rattle.std.specs.Prelude.{◌≡◌, ◌++◌, ◌∷◌, [], ◌+◌, ◌^◌, ◌<◌, IfOk, OnOk, map};
+ghost use Rattle.lisp_base.specs.Forest.{count_of};
 ghost use Rattle.lisp_program.specs.Forms.{forms_of, preorder};
 ghost use Rattle.lisp_program.specs.Program.{function_of};
 ghost use Rattle.lisp_forms.specs.Flat.{flat};
 ghost use Rattle.lisp_forms.specs.Program;
 ghost use Rattle.lisp_forms.specs.Written.{core_here, core_node, cores_in, function_here, is_done, left_behind};
 ghost use Rattle.lisp_forms.specs.Trees.{Expansion};
-ghost use Rattle.lisp_base.specs.Forest.{count_of};
 
 use crate::blocks::{is_function, skipped_behind};
-use crate::expanded::{Expanded, ExpandedNode};
+use form_shapes::expanded::{Expanded, ExpandedNode};
 use lisp_base::id::{FunctionName, Place};
 use lisp_base::memory::Memory;
 use lisp_base::value::Value;

@@ -1,15 +1,15 @@
 -- The marks of items build the nodes of their data.
 use Rattle.std.proofs.Common.{◌≡◌, ℕ, suc, ◌+◌, ◌≤◌, List, [], ◌∷◌, ◌++◌, length, map, refl, ap, sym, ◌∙◌, arith, add-one, append_assoc, append-nil, sum_by}
 use Rattle.std.proofs.lemmas.List.Sums.{sum_by-cons}
+use Rattle.lisp_data.specs.declared.datum.DatumNode.{DatumNode}
+use Rattle.lisp_data.specs.declared.datum.Leaf.{Leaf}
+use Rattle.lisp_data.specs.declared.datum.Leaf.TheVariants.{Symbol as SymbolLeaf, Text as TextLeaf}
+use Rattle.lisp_data.specs.Data.{Data, NoData, Atom, Listed, count_of, leaf_kind, written}
 use Rattle.lisp_reader.specs.declared.build.Builder.{Builder}
-use Rattle.lisp_reader.specs.declared.datum.DatumNode.{DatumNode}
-use Rattle.lisp_reader.specs.declared.datum.Leaf.{Leaf}
-use Rattle.lisp_reader.specs.declared.datum.Leaf.TheVariants.{Symbol as SymbolLeaf, Text as TextLeaf}
 use Rattle.lisp_reader.specs.declared.gather.Mark.{Mark}
 use Rattle.lisp_reader.specs.declared.gather.MarkKind.{MarkKind}
 use Rattle.lisp_reader.specs.declared.gather.MarkKind.TheVariants.{Open, Close, Quote, ALeaf}
 use Rattle.lisp_reader.specs.Build.{built, moved, opened, or_none, quoted, total, with_item}
-use Rattle.lisp_reader.specs.Data.{Data, NoData, Atom, Listed, count_of, leaf_kind, written}
 use Rattle.lisp_reader.specs.Gathering.{quote_name}
 use Rattle.lisp_reader.specs.Grammar.{Item, ItemAnd, Items, ListItem, LiteralItem, NoItems, QuoteItem, TokenItem, data_in, datum_in, leaf_of, spelled, spelled_item}
 use Rattle.lisp_reader.specs.Marking.{mark_of}

@@ -1,7 +1,7 @@
 -- Where a text may be cut: at a byte that is no token letter or ends a line, and right behind a byte of ASCII.
-use Rattle.std.proofs.Common.{◌≡◌, ℕ, ◌+◌, ◌<◌, ◌≤◌, Bool, true, false, ◌==◌, List, ◌∷◌, ◌++◌, length, get_or, drop, refl, ap, subst, arith, sym, ◌∙◌, length-append, length-drop, ⊎_elim}
 use Rattle.std.specs.List.{prefix_len}
 use Rattle.std.specs.Str.{IsUtf8}
+use Rattle.std.proofs.Common.{◌≡◌, ℕ, ◌+◌, ◌<◌, ◌≤◌, Bool, true, false, ◌==◌, List, ◌∷◌, ◌++◌, length, get_or, drop, refl, ap, subst, arith, sym, ◌∙◌, length-append, length-drop, ⊎_elim}
 use Rattle.std.proofs.lemmas.Bool.{cases_lt}
 use Rattle.std.proofs.lemmas.Bool.Decides.{nat_tests}
 use Rattle.std.proofs.lemmas.List.{drop_all, drop_at, drop-drop, get_or-drop, get_or_at, take_at}

@@ -1,7 +1,7 @@
 -- Interning a name: whether there is room for it, its number, and the names then.
-use Rattle.std.proofs.Common.{◌≡◌, ℕ, ◌<◌, inl, inr, true, false, Some, Ok, Err, List, [], ◌∷◌, ◌++◌, nat_lt, length, get_or, slice_get, Contains, refl, ap, sym, ◌∙◌, arith}
 use Rattle.std.specs.List.{list_any}
 use Rattle.std.specs.Str.{bytes_eq}
+use Rattle.std.proofs.Common.{◌≡◌, ℕ, ◌<◌, inl, inr, true, false, Some, Ok, Err, List, [], ◌∷◌, ◌++◌, nat_lt, length, get_or, slice_get, Contains, refl, ap, sym, ◌∙◌, arith}
 use Rattle.std.proofs.lemmas.Bool.{false_from_ne_true}
 use Rattle.std.proofs.lemmas.Bool.Decides.{nat_tests}
 use Rattle.std.proofs.lemmas.Cmp.{nat_list_eq_equiv}

@@ -1,14 +1,14 @@
 -- A text has one reading or one refusal.
 use Rattle.std.proofs.Common.{◌≡◌, ℕ, List, Option, Some, None, ap, sym, ◌∙◌, arith}
 use Rattle.std.proofs.lemmas.Str.{utf8_valid_len-IsValidUpTo}
-use Rattle.lisp_reader.proofs.Building.{nodes_built}
-use Rattle.lisp_reader.specs.Data.{data_of, each, written}
-use Rattle.lisp_reader.specs.DataCode.{data_back}
+use Rattle.lisp_data.specs.Data.{data_of, each, written}
+use Rattle.lisp_data.specs.DataCode.{data_back}
 use Rattle.lisp_reader.specs.Gathering.{Fault, Gathered, faulty}
 use Rattle.lisp_reader.specs.Grammar.{Items, data_in, spelled}
 use Rattle.lisp_reader.specs.Parts.{Part}
 use Rattle.lisp_reader.specs.Reading.{too_long, not_utf8, in_reading, OneReading, OneRefusal, NeverBoth}
 use Rattle.lisp_reader.specs.Tables.{Tables}
+use Rattle.lisp_reader.proofs.Building.{nodes_built}
 
 -- items that are spelled the same are the same data
 same_data : (t : Tables) (is js : Items) (ps : List Part) → spelled is ≡ ps → spelled js ≡ ps → data_in t is ≡ data_in t js

@@ -1,7 +1,7 @@
 -- A token that is a leaf is taken, and what a refusal says of a part.
-use Rattle.std.proofs.Common.{◌≡◌, ℕ, Result, Ok, Err, IsErrAnd, List, [], ◌∷◌, ◌++◌, ap, subst, sym, ◌∙◌}
 use Rattle.std.specs.Result.{IfErr}
-use Rattle.lisp_reader.specs.declared.datum.Leaf.{Leaf}
+use Rattle.std.proofs.Common.{◌≡◌, ℕ, Result, Ok, Err, IsErrAnd, List, [], ◌∷◌, ◌++◌, ap, subst, sym, ◌∙◌}
+use Rattle.lisp_data.specs.declared.datum.Leaf.{Leaf}
 use Rattle.lisp_reader.specs.declared.gather.Mark.{Mark}
 use Rattle.lisp_reader.specs.declared.gather.MarkKind.TheVariants.{ALeaf}
 use Rattle.lisp_reader.specs.declared.opens.Opening.{Opening}

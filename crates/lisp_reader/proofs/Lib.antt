@@ -1,5 +1,4 @@
 pub mod Sized
-pub mod Skipped
 pub mod Cased
 pub mod Characters
 pub mod Cut
@@ -17,7 +16,5 @@ pub mod Building
 pub mod Spells
 pub mod Laws
 pub mod Few
-pub mod Ends
 pub mod Passes
-pub mod Beside
 pub mod Told

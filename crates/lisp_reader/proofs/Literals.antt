@@ -1,6 +1,6 @@
 -- How a string literal falls out of a text.
-use Rattle.std.proofs.Common.{◌≡◌, ℕ, suc, ◌+◌, ◌<◌, ◌≤◌, Bool, true, false, not, List, [], ◌∷◌, ◌++◌, length, get_or, drop, refl, ap, subst, arith, ◌∙◌, add-one}
 use Rattle.std.specs.Str.{IsUtf8}
+use Rattle.std.proofs.Common.{◌≡◌, ℕ, suc, ◌+◌, ◌<◌, ◌≤◌, Bool, true, false, not, List, [], ◌∷◌, ◌++◌, length, get_or, drop, refl, ap, subst, arith, ◌∙◌, add-one}
 use Rattle.std.proofs.lemmas.List.{drop_more}
 use Rattle.lisp_reader.specs.Parts.{Where', Between, Inside, Escaped, Literal, parts_from}
 use Rattle.lisp_reader.specs.Scanning.{GoesOn}

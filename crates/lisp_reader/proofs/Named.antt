@@ -1,9 +1,9 @@
 -- The letters of names are in ASCII, and so they are in upper case.
-use Rattle.std.proofs.Common.{◌≡◌, ℕ, neg_ℤ, ◌+◌, ◌<◌, ◌^◌, Bool, true, false, true≢false, IsTrue, ◌&&◌, ◌||◌, ◌==◌, nat_lt, nat_le, if◌then◌else◌, List, [], ◌∷◌, ◌++◌, length, get_or, take, drop, map, codes, refl, ap, sym, subst, ◌∙◌, arith, pos}
 use Rattle.std.specs.Char.{is_ascii, to_ascii_uppercase}
 use Rattle.std.specs.List.{list_all}
 use Rattle.std.specs.Str.{bytes_eq}
 use Rattle.std.specs.Str.Parse.{digits_value}
+use Rattle.std.proofs.Common.{◌≡◌, ℕ, neg_ℤ, ◌+◌, ◌<◌, ◌^◌, Bool, true, false, true≢false, IsTrue, ◌&&◌, ◌||◌, ◌==◌, nat_lt, nat_le, if◌then◌else◌, List, [], ◌∷◌, ◌++◌, length, get_or, take, drop, map, codes, refl, ap, sym, subst, ◌∙◌, arith, pos}
 use Rattle.std.proofs.lemmas.Bool.{true_from_ne_false}
 use Rattle.std.proofs.lemmas.Bool.Decides.{nat_tests}
 use Rattle.std.proofs.lemmas.List.{map_more}

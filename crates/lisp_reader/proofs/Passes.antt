@@ -1,22 +1,22 @@
 -- What the reader answers, from what its passes say.
+use Rattle.std.specs.Str.{IsUtf8}
 use Rattle.std.proofs.Common.{◌≡◌, ℕ, ◌<◌, ◌≤◌, ◌^◌, List, [], None, length, map, ap, sym, ◌∙◌, append-nil, arith}
 use Rattle.std.proofs.lemmas.List.{length-map}
-use Rattle.std.specs.Str.{IsUtf8}
-use Rattle.lisp_reader.proofs.Building.{built_nodes, nodes_built}
-use Rattle.lisp_reader.proofs.Few.{parts_length}
-use Rattle.lisp_reader.proofs.Spells.{Spelled, spells_items}
-use Rattle.lisp_reader.proofs.Used.{tables_used}
+use Rattle.lisp_data.specs.Data.{AreWhole, Data, data_of, each, written}
+use Rattle.lisp_data.specs.DataCode.{data_back}
+use Rattle.lisp_data.specs.declared.datum.DatumNode.{DatumNode}
 use Rattle.lisp_reader.specs.Build.{built}
-use Rattle.lisp_reader.specs.Data.{AreWhole, Data, data_of, each, written}
-use Rattle.lisp_reader.specs.DataCode.{data_back}
 use Rattle.lisp_reader.specs.Gathering.{Gathered, HoldsFront, gathered, with_parts}
 use Rattle.lisp_reader.specs.Grammar.{data_in}
 use Rattle.lisp_reader.specs.Marking.{faultless, mark_of}
 use Rattle.lisp_reader.specs.Parts.{Between, parts_of}
 use Rattle.lisp_reader.specs.Reading.{Reads, longest}
 use Rattle.lisp_reader.specs.Tables.{Tables}
-use Rattle.lisp_reader.specs.declared.datum.DatumNode.{DatumNode}
 use Rattle.lisp_reader.specs.declared.gather.Mark.{Mark}
+use Rattle.lisp_reader.proofs.Building.{built_nodes, nodes_built}
+use Rattle.lisp_reader.proofs.Few.{parts_length}
+use Rattle.lisp_reader.proofs.Spells.{Spelled, spells_items}
+use Rattle.lisp_reader.proofs.Used.{tables_used}
 
 -- no part has a fault
 fine : (bytes : List ℕ) (before after : Tables) → gathered [] before (parts_of bytes) ≡ faultless after

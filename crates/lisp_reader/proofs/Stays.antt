@@ -1,10 +1,10 @@
 -- Why the numbers of names stay as the tables grow: the marks of parts are those with the tables at the end.
-use Rattle.std.proofs.Common.{◌≡◌, ℕ, ◌+◌, Bool, true, false, not, ◌||◌, cond, if◌then◌else◌, ◌==◌, List, [], ◌∷◌, ◌++◌, length, map, Option, Some, None, refl, ap, subst, sym, ◌∙◌}
 use Rattle.std.specs.List.{list_any}
 use Rattle.std.specs.Str.{bytes_eq}
+use Rattle.std.proofs.Common.{◌≡◌, ℕ, ◌+◌, Bool, true, false, not, ◌||◌, cond, if◌then◌else◌, ◌==◌, List, [], ◌∷◌, ◌++◌, length, map, Option, Some, None, refl, ap, subst, sym, ◌∙◌}
 use Rattle.std.proofs.lemmas.List.Folds.{list_any-append}
 use Rattle.std.proofs.lemmas.Slice.Eq.{bytes_eq-Decides}
-use Rattle.lisp_reader.specs.declared.datum.Leaf.TheVariants.{Symbol as SymbolLeaf, Text as TextLeaf}
+use Rattle.lisp_data.specs.declared.datum.Leaf.TheVariants.{Symbol as SymbolLeaf, Text as TextLeaf}
 use Rattle.lisp_reader.specs.declared.gather.MarkKind.TheVariants.{Quote, ALeaf}
 use Rattle.lisp_reader.specs.declared.meaning.Meaning.{Meaning}
 use Rattle.lisp_reader.specs.declared.meaning.Meaning.TheVariants.{Integer, Time, Symbol, Keyword, TooLarge, Bad}

@@ -1,16 +1,16 @@
 -- Each text is read or refused.
-use Rattle.std.proofs.Common.{◌≡◌, ℕ, zero, suc, ◌<◌, ◌≤◌, inl, inr, ◌⊎◌, Bool, true, false, true≢false, List, [], nat_lt, length, take, Option, Some, None, refl, ap, subst, sym, ◌∙◌, arith}
 use Rattle.std.specs.Str.{IsUtf8, IsValidUpTo, is_utf8}
+use Rattle.std.proofs.Common.{◌≡◌, ℕ, zero, suc, ◌<◌, ◌≤◌, inl, inr, ◌⊎◌, Bool, true, false, true≢false, List, [], nat_lt, length, take, Option, Some, None, refl, ap, subst, sym, ◌∙◌, arith}
 use Rattle.std.proofs.lemmas.Bool.Decides.{nat_tests}
 use Rattle.std.proofs.lemmas.List.{take_all}
 use Rattle.std.proofs.lemmas.Str.{IsUtf8-from_is_utf8, is_utf8-from_IsUtf8}
-use Rattle.lisp_reader.proofs.Spells.{spells_items}
-use Rattle.lisp_reader.specs.Data.{each}
+use Rattle.lisp_data.specs.Data.{each}
 use Rattle.lisp_reader.specs.Gathering.{Fault, gathered, with_parts}
 use Rattle.lisp_reader.specs.Grammar.{data_in}
 use Rattle.lisp_reader.specs.Parts.{parts_of}
 use Rattle.lisp_reader.specs.Reading.{IsReadable, IsRefusable, IsText, ReadOrRefused, in_reading, longest, not_utf8, too_long}
 use Rattle.lisp_reader.specs.Tables.{Tables}
+use Rattle.lisp_reader.proofs.Spells.{spells_items}
 
 -- the longest front that is UTF-8, among those of at most so many bytes
 record Front (bs : List ℕ) (most : ℕ) : Type 0 where

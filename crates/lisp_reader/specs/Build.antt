@@ -1,12 +1,12 @@
 -- The nodes of data, built mark by mark from the last to the first.
 use Rattle.std.specs.Prelude.{ℕ, ◌+◌, List, [], ◌∷◌, Option, Some, None, sum_by}
+use Rattle.lisp_data.specs.declared.datum.DatumKind.{DatumKind}
+use Rattle.lisp_data.specs.declared.datum.DatumKind.TheVariants.{List as AList, Symbol as ASymbol}
+use Rattle.lisp_data.specs.Data.{leaf_kind, node_at}
 use Rattle.lisp_reader.specs.declared.build.Builder.{Builder}
-use Rattle.lisp_reader.specs.declared.datum.DatumKind.{DatumKind}
-use Rattle.lisp_reader.specs.declared.datum.DatumKind.TheVariants.{List as AList, Symbol as ASymbol}
 use Rattle.lisp_reader.specs.declared.gather.Mark.{Mark}
 use Rattle.lisp_reader.specs.declared.gather.MarkKind.{MarkKind}
 use Rattle.lisp_reader.specs.declared.gather.MarkKind.TheVariants.{Open, Close, Quote, ALeaf}
-use Rattle.lisp_reader.specs.Data.{leaf_kind, node_at}
 use Rattle.lisp_reader.specs.Stack.{top_of, below}
 
 -- nothing built

@@ -1,10 +1,10 @@
 -- What a text holds, and the data that it is read as.
 use Rattle.std.specs.Prelude.{ℕ, pos, List, [], ◌∷◌, ◌++◌, Bool}
-use Rattle.lisp_reader.specs.declared.datum.Leaf.{Leaf}
-use Rattle.lisp_reader.specs.declared.datum.Leaf.TheVariants.{Int, Symbol as SymbolLeaf, Text as TextLeaf, Time as TimeLeaf}
+use Rattle.lisp_data.specs.declared.datum.Leaf.{Leaf}
+use Rattle.lisp_data.specs.declared.datum.Leaf.TheVariants.{Int, Symbol as SymbolLeaf, Text as TextLeaf, Time as TimeLeaf}
+use Rattle.lisp_data.specs.Data.{Data, NoData, Atom, Listed}
 use Rattle.lisp_reader.specs.declared.meaning.Meaning.{Meaning}
 use Rattle.lisp_reader.specs.declared.meaning.Meaning.TheVariants.{Integer, Time, Symbol, Keyword, TooLarge, Bad}
-use Rattle.lisp_reader.specs.Data.{Data, NoData, Atom, Listed}
 use Rattle.lisp_reader.specs.Gathering.{quote_name}
 use Rattle.lisp_reader.specs.Meanings.{keyword_name, meaning_in, symbol_name}
 use Rattle.lisp_reader.specs.Parts.{Part, Opens, Closes, Quotes, Literal, Token'}

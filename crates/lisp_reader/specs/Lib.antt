@@ -1,5 +1,3 @@
-pub mod Data
-pub mod DataCode
 pub mod Meanings
 pub mod Parts
 pub mod Printing
@@ -10,6 +8,4 @@ pub mod Grammar
 pub mod Marking
 pub mod Stack
 pub mod Build
-pub mod Splitting
 pub mod Reading
-pub mod First

@@ -1,7 +1,7 @@
 -- Parts as marks: the same, with symbols, literals and numbers known.
 use Rattle.std.specs.Prelude.{◌≡◌, ◌⊎◌, ℕ, pos, true, false, List, [], ◌∷◌, ◌++◌, Option, Some, None}
-use Rattle.lisp_reader.specs.declared.datum.Leaf.{Leaf}
-use Rattle.lisp_reader.specs.declared.datum.Leaf.TheVariants.{Int, Text as TextLeaf}
+use Rattle.lisp_data.specs.declared.datum.Leaf.{Leaf}
+use Rattle.lisp_data.specs.declared.datum.Leaf.TheVariants.{Int, Text as TextLeaf}
 use Rattle.lisp_reader.specs.declared.gather.Mark.{Mark}
 use Rattle.lisp_reader.specs.declared.gather.MarkKind.{MarkKind}
 use Rattle.lisp_reader.specs.declared.gather.MarkKind.TheVariants.{Open, Close, Quote, ALeaf}

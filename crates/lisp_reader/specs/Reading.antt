@@ -1,9 +1,9 @@
 -- What the reader says of a text.
 use Rattle.std.specs.Prelude.{◌≡◌, ◌⊎◌, ℕ, ◌<◌, ◌≤◌, List, [], None, length}
 use Rattle.std.specs.Str.{IsUtf8, IsValidUpTo}
+use Rattle.lisp_data.specs.Data.{Data, each}
 use Rattle.lisp_reader.specs.declared.refusal.ReadRefusal.{ReadRefusal}
 use Rattle.lisp_reader.specs.declared.refusal.ReadRefusal.TheVariants.{Refused, Memory}
-use Rattle.lisp_reader.specs.Data.{Data, each}
 use Rattle.lisp_reader.specs.Gathering.{faulty, gathered, HoldsFront, with_parts}
 use Rattle.lisp_reader.specs.Grammar.{Items, data_in, spelled}
 use Rattle.lisp_reader.specs.Parts.{parts_of}

@@ -1,11 +1,11 @@
 ghost use Rattle.std.specs.Prelude.{◌≡◌, ◌+◌, ◌<◌, ◌^◌, length, IfOk, OnOk};
 ghost use Rattle.lisp_reader.specs.Build.{built, closed, moved, nothing_built, opened, quoted, total, with_item};
 
-use crate::datum::{DatumKind, DatumNode};
 use crate::gather::{Mark, MarkKind};
 use crate::stack::Stack;
 use lisp_base::id::{Place, SymbolId};
 use lisp_base::memory::Memory;
+use lisp_data::datum::{DatumKind, DatumNode};
 use std::alloc::Global;
 
 /// What the marks from some mark on have built.

@@ -10,7 +10,6 @@ ghost use Rattle.lisp_reader.specs.Parts.{Opens as OpensPart, Closes, Quotes, Li
 ghost use Rattle.lisp_reader.specs.Scanning.{part_of};
 ghost use Rattle.lisp_reader.specs.Tables.{Tables, tables_of};
 
-use crate::datum::Leaf;
 use crate::meaning::{Meaning, letters_from, meaning_of};
 use crate::opens::{Opening, Opens};
 use crate::refusal::{
@@ -20,6 +19,7 @@ use crate::refusal::{
 use crate::scan::{PartKind, Scanned, scan};
 use lisp_base::id::{Micros, Place, StringId, SymbolId};
 use lisp_base::memory::Memory;
+use lisp_data::datum::Leaf;
 use std::alloc::Global;
 use symbol_table::error::InternError;
 use symbol_table::symbols::Symbols;

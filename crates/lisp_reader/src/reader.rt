@@ -4,11 +4,11 @@ ghost use Rattle.lisp_reader.specs.Reading.{IsRefusal, NeverBoth, OneReading, On
 ghost use Rattle.lisp_reader.specs.Tables.{tables_of};
 
 use crate::build::nodes_of;
-use crate::datum::Datum;
 use crate::gather::gather;
 use crate::refusal::{NOT_UTF8, ReadRefusal, TOO_LONG};
-use crate::split::split;
 use lisp_base::id::Place;
+use lisp_data::datum::Datum;
+use lisp_data::split::split;
 use std::alloc::Global;
 use symbol_table::symbols::Symbols;
 use symbol_table::texts::Texts;

@@ -1,7 +1,7 @@
 -- Bytes are one program, or are refused with one number at one place.
 use Rattle.std.proofs.Common.{◌≡◌, ℕ, inl, inr, ◌⊎◌, List, Option, Some, None, refl, ap, subst, sym, ◌∙◌}
 use Rattle.lisp_program.specs.Program.{Program}
-use Rattle.lisp_reader.specs.Data.{Data}
+use Rattle.lisp_data.specs.Data.{Data}
 use Rattle.lisp_reader.specs.Reading.{IsReadable, IsRefusable, NeverBoth as NeverBothText, OneReading, OneRefusal as OneRefusalOfText, ReadOrRefused, Reads as ReadsData}
 use Rattle.lisp_reader.specs.Tables.{Tables}
 use Rattle.lisp_forms.specs.Program.{Expands, IsRefused as IsRefusedData}

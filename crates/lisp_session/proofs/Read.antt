@@ -1,7 +1,7 @@
 -- Why there is no program, from what reader and expander say.
 use Rattle.std.proofs.Common.{◌≡◌, ℕ, List, [], Result, Ok, Err, IsErrAnd, IfErr, Some, refl, ap, sym, ◌∙◌}
 use Rattle.symbol_table.specs.Names.{first_symbols}
-use Rattle.lisp_reader.specs.Data.{Data}
+use Rattle.lisp_data.specs.Data.{Data}
 use Rattle.lisp_reader.specs.Reading.{IsRefusal as IsRefusalOfText, Reads}
 use Rattle.lisp_reader.specs.Tables.{Tables, tables_of}
 use Rattle.lisp_reader.specs.declared.refusal.ReadRefusal.{ReadRefusal}
@@ -9,8 +9,8 @@ use Rattle.lisp_reader.specs.declared.refusal.ReadRefusal.TheVariants.{Refused a
 use Rattle.lisp_program.specs.Program.{Program}
 use Rattle.lisp_forms.specs.Program.{Expands, IsRefusal as IsRefusalOfData}
 use Rattle.plain_program.specs.Plain.{first_unbuilt}
-use Rattle.lisp_forms.specs.declared.refusal.ExpandRefusal.{ExpandRefusal}
-use Rattle.lisp_forms.specs.declared.refusal.ExpandRefusal.TheVariants.{Refused as RefusedData, Memory as NoMemoryForForms}
+use Rattle.form_shapes.specs.declared.refusal.ExpandRefusal.{ExpandRefusal}
+use Rattle.form_shapes.specs.declared.refusal.ExpandRefusal.TheVariants.{Refused as RefusedData, Memory as NoMemoryForForms}
 use Rattle.lisp_session.specs.Programs.{IsRefused, as_data, as_text, as_unbuilt, first_tables, not_built}
 use Rattle.lisp_session.specs.Reading.{IsRefusal, of_data, of_text}
 use Rattle.lisp_session.specs.declared.program.Refusal.{Refusal}

@@ -1,7 +1,7 @@
 -- Data stand for one whole program, or are refused with one number at one place.
 use Rattle.std.proofs.Common.{◌≡◌, ℕ, inl, inr, ◌⊎◌, List, [], Option, Some, None, refl, ap, sym, ◌∙◌}
 use Rattle.lisp_program.specs.Program.{Program}
-use Rattle.lisp_reader.specs.Data.{Data}
+use Rattle.lisp_data.specs.Data.{Data}
 use Rattle.lisp_forms.specs.Program.{Expands, IsRefused, core_forms, expansion_of, functions_of, program_refusal, variables_from}
 use Rattle.lisp_forms.specs.declared.expander.Refusal.{Refusal}
 

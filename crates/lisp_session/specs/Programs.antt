@@ -2,7 +2,7 @@
 use Rattle.std.specs.Prelude.{◌≡◌, ◌⊎◌, ℕ, List, [], Some, None}
 use Rattle.symbol_table.specs.Names.{first_symbols}
 use Rattle.lisp_program.specs.Program.{Program}
-use Rattle.lisp_reader.specs.Data.{Data}
+use Rattle.lisp_data.specs.Data.{Data}
 use Rattle.lisp_reader.specs.Reading.{Reads as ReadsData, IsRefused as IsRefusedText}
 use Rattle.lisp_reader.specs.Tables.{Tables, tables_of}
 use Rattle.lisp_forms.specs.Program.{Expands, IsRefused as IsRefusedData}

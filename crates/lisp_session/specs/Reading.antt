@@ -1,7 +1,7 @@
 -- What reading a program answers.
 use Rattle.std.specs.Prelude.{ℕ, List}
-use Rattle.lisp_forms.specs.declared.refusal.ExpandRefusal.{ExpandRefusal}
-use Rattle.lisp_forms.specs.declared.refusal.ExpandRefusal.TheVariants.{Refused as RefusedData, Memory as NoMemoryForForms}
+use Rattle.form_shapes.specs.declared.refusal.ExpandRefusal.{ExpandRefusal}
+use Rattle.form_shapes.specs.declared.refusal.ExpandRefusal.TheVariants.{Refused as RefusedData, Memory as NoMemoryForForms}
 use Rattle.lisp_reader.specs.declared.refusal.ReadRefusal.{ReadRefusal}
 use Rattle.lisp_reader.specs.declared.refusal.ReadRefusal.TheVariants.{Refused as RefusedText, Memory as NoMemoryForData}
 use Rattle.lisp_session.specs.declared.program.Refusal.{Refusal}

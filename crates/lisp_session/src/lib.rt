@@ -6,6 +6,4 @@ mod input;
 pub mod laws;
 mod output;
 mod program;
-#[cfg(test)]
-mod tests;
 pub mod top;

@@ -6,10 +6,10 @@ ghost use Rattle.lisp_session.specs.Programs.{Reads};
 ghost use Rattle.lisp_session.specs.Reading.{IsRefusal, of_data, of_text};
 ghost use Rattle.lisp_session.specs.declared.program.Refusal.TheVariants.{Memory};
 
+use form_shapes::refusal::ExpandRefusal;
 use lisp_base::id::Place;
 use lisp_base::memory;
 use lisp_forms::expander::expand;
-use lisp_forms::refusal::ExpandRefusal;
 use lisp_program::form::Program;
 use lisp_reader::reader::read_program;
 use lisp_reader::refusal::ReadRefusal;

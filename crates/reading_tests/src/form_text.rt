@@ -3,12 +3,12 @@
 //! A constant is its value, and any other form a list of a word and what stands behind it: names, values and numbers of its kind, and the forms under it. `(if (local 0) 1 NIL)` tests the lexical variable 0. Behind main's forms stands each function, as `(function F 2 ..)` with its name or place, how many parameters it has, and its body.
 use crate::form_words::{keys, numbers, symbol, value, word};
 use crate::tables::Tables;
+use form_shapes::refusal::ExpandRefusal;
 use lisp_base::id::Place;
 use lisp_base::value::Value;
+use lisp_data::datum::Datum;
 use lisp_forms::expander::expand;
-use lisp_forms::refusal::ExpandRefusal;
 use lisp_program::form::{CoreKind, FormNode, FunctionForm, Program};
-use lisp_reader::datum::Datum;
 use lisp_reader::print::print_value;
 use std::alloc::{AllocError, Global};
 use std::test::Fail;

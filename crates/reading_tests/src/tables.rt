@@ -1,7 +1,7 @@
 //! What texts read as over tables of names and string literals, as text, for the tests of the reader.
 use crate::form_text::{expansion, verdict};
 use lisp_base::id::{Micros, Place, StringId, SymbolId};
-use lisp_reader::datum::{Datum, DatumKind, DatumNode};
+use lisp_data::datum::{Datum, DatumKind, DatumNode};
 use lisp_reader::reader::read_program;
 use lisp_reader::refusal::ReadRefusal;
 use std::alloc::{AllocError, Global};

@@ -1,3 +1,17 @@
+use Rattle.std.proofs.Common.{◌≡◌, ap, arith, refl, sym, ◌∙◌, ◌≢◌, ◌∷◌, ◌+◌, Some, drop, length, ◌++◌, None, OnOk, subst}
+use Rattle.std.proofs.lemmas.Bool.Decides.{nat_tests}
+use Rattle.lisp_program.specs.declared.form.CoreKind.TheVariants.{Catch, Clause, WithDeadline}
+use Rattle.lisp_program.specs.declared.form.CoreKind.TheVariants as k
+use Rattle.lisp_data.specs.Data.{count_of}
+use Rattle.form_shapes.specs.Bindings.{bound_in}
+use Rattle.form_shapes.specs.Contexts.{scope_at, with_opened}
+use Rattle.form_shapes.specs.Keywords.{parts_of}
+use Rattle.form_shapes.specs.One.{bound_by}
+use Rattle.form_shapes.specs.Scopes.{Scope}
+use Rattle.form_shapes.specs.Sizes.{size_of}
+use Rattle.form_shapes.specs.declared.keywords.Roles.TheVariants.{Values}
+use Rattle.lisp_forms.specs.Expansion.{forms_in}
+use Rattle.lisp_forms.specs.Flat.{flat_one}
 use Rattle.lisp_forms.proofs.+forms.Goals.{expand::push_by_roles-in-Value+in_ok-push_first-in-Value, expand::push_by_roles-in-Place+in_ok-push_placed-in-Place, expand::push_by_roles-in-Skipped, bodies::push_bound_clause-then-has+in_ok-push_form+in_ok-push_form-2+in_ok-push_local+in_ok-push_form-3, bodies::push_bound_clause-else-has+in_ok-push_form-4}
 use Rattle.lisp_forms.proofs.Bodied.{body_form, clause-is, front_form, joined_form, lexical_clause, special_clause, under_form}
 use Rattle.lisp_forms.proofs.Functions.{lambda_steps}
@@ -7,20 +21,6 @@ use Rattle.lisp_forms.proofs.Looping.{dotimes_written, loop_written, turns_writt
 use Rattle.lisp_forms.proofs.Nesting.{Split, bound_next, first_bound, let_star_of_some, others_bound, smaller_others, turn_step, turns_done}
 use Rattle.lisp_forms.proofs.Parts.{count-forms, count-roles, only_step}
 use Rattle.lisp_forms.proofs.Steps.{and_end, change_steps, clause_steps, data-with_first, fold_steps, listed-shape, nothing_written, or_step, over, over_nil, place_written, prog1_steps, role_step, size_of-with_first, test_step, unless_steps, value_written, when_steps}
-use Rattle.lisp_forms.specs.Bindings.{bound_in}
-use Rattle.lisp_forms.specs.Contexts.{scope_at, with_opened}
-use Rattle.lisp_forms.specs.Expansion.{forms_in}
-use Rattle.lisp_forms.specs.Flat.{flat_one}
-use Rattle.lisp_forms.specs.Keywords.{parts_of}
-use Rattle.lisp_forms.specs.One.{bound_by}
-use Rattle.lisp_forms.specs.Scopes.{Scope}
-use Rattle.lisp_forms.specs.Sizes.{size_of}
-use Rattle.lisp_forms.specs.declared.keywords.Roles.TheVariants.{Values}
-use Rattle.lisp_program.specs.declared.form.CoreKind.TheVariants.{Catch, Clause, WithDeadline}
-use Rattle.lisp_reader.specs.Data.{count_of}
-use Rattle.std.proofs.Common.{◌≡◌, ap, arith, refl, sym, ◌∙◌, ◌≢◌, ◌∷◌, ◌+◌, Some, drop, length, ◌++◌, None, OnOk, subst}
-use Rattle.std.proofs.lemmas.Bool.Decides.{nat_tests}
-use Rattle.lisp_program.specs.declared.form.CoreKind.TheVariants as k
 use Rattle.lisp_forms.proofs.+forms.Goals as goal
 
 pub bodies::push_body_form-returns : goal.bodies::push_body_form-returns

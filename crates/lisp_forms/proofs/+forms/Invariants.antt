@@ -1,11 +1,11 @@
 use Rattle.std.proofs.Common.{◌≡◌, ◌++◌, ◌+◌, ◌*◌, ◌≤◌, Some, drop}
-use Rattle.lisp_reader.specs.Data.{NoData, count_of}
-use Rattle.lisp_reader.specs.First.{with_first}
-use Rattle.lisp_forms.specs.Bindings.{bound_in}
-use Rattle.lisp_forms.specs.Contexts.{scope_at, with_opened}
+use Rattle.lisp_data.specs.Data.{NoData, count_of}
+use Rattle.lisp_data.specs.First.{with_first}
+use Rattle.form_shapes.specs.Bindings.{bound_in}
+use Rattle.form_shapes.specs.Contexts.{scope_at, with_opened}
+use Rattle.form_shapes.specs.Sizes.{size_of}
 use Rattle.lisp_forms.specs.Expansion.{by_roles, clauses_in, conds_in, forms_in, ors_in, pairs_in, values_in}
 use Rattle.lisp_forms.specs.Flat.{flat, flat_one}
-use Rattle.lisp_forms.specs.Sizes.{size_of}
 use Rattle.lisp_forms.specs.Written.{and_front, turn_nodes}
 use Rattle.lisp_forms.proofs.+forms.Given as goal
 

@@ -1,5 +1,5 @@
 use Rattle.std.proofs.Common.{ap, arith}
-use Rattle.lisp_reader.specs.Data.{count_of as data_in}
+use Rattle.lisp_data.specs.Data.{count_of as data_in}
 use Rattle.lisp_forms.proofs.Tally.{clauses_next, data_in-with_first, one_list-few}
 use Rattle.lisp_forms.proofs.bodies.count_clauses.Goals as goal
 

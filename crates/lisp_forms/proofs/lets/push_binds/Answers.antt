@@ -1,5 +1,5 @@
 use Rattle.std.proofs.Common.{◌++◌, ap, refl}
-use Rattle.lisp_forms.specs.Contexts.{scope_at}
+use Rattle.form_shapes.specs.Contexts.{scope_at}
 use Rattle.lisp_forms.proofs.Binds.{binds-same, binds_next}
 use Rattle.lisp_forms.proofs.lets.push_binds.Goals as goal
 

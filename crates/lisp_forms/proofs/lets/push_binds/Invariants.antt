@@ -1,5 +1,5 @@
 use Rattle.std.proofs.Common.{◌≡◌, ◌++◌, drop}
-use Rattle.lisp_forms.specs.Contexts.{scope_at}
+use Rattle.form_shapes.specs.Contexts.{scope_at}
 use Rattle.lisp_forms.specs.Written.{bind_nodes}
 use Rattle.lisp_forms.proofs.Binds.{binds_from}
 use Rattle.lisp_forms.proofs.lets.push_binds.Given as goal

@@ -1,7 +1,7 @@
 use Rattle.std.proofs.Common.{◌∙◌, ap}
-use Rattle.lisp_forms.specs.Contexts.{scope_at}
-use Rattle.lisp_forms.specs.Scopes.{Scope, deeper, inside}
-use Rattle.lisp_forms.specs.declared.levels.Level.TheVariants.{Block}
+use Rattle.form_shapes.specs.Contexts.{scope_at}
+use Rattle.form_shapes.specs.Scopes.{Scope, deeper, inside}
+use Rattle.form_shapes.specs.declared.levels.Level.TheVariants.{Block}
 use Rattle.lisp_forms.proofs.loops.opened_turns.Goals as goal
 
 pub returns : goal.returns

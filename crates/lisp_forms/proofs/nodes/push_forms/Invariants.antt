@@ -1,5 +1,5 @@
 use Rattle.std.proofs.Common.{◌≡◌, ◌++◌}
-use Rattle.lisp_forms.specs.declared.expanded.Expanded.TheVariants.{Form}
+use Rattle.form_shapes.specs.declared.expanded.Expanded.TheVariants.{Form}
 use Rattle.lisp_forms.specs.Flat.{node, repeated}
 use Rattle.lisp_forms.proofs.nodes.push_forms.Given as goal
 

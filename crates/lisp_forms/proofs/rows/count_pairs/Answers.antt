@@ -1,5 +1,5 @@
 use Rattle.std.proofs.Common.{◌∙◌, ap, arith, sym}
-use Rattle.lisp_reader.specs.Data.{count_of as data_in}
+use Rattle.lisp_data.specs.Data.{count_of as data_in}
 use Rattle.lisp_forms.proofs.Tally.{data_in-with_first, pairs_next}
 use Rattle.lisp_forms.proofs.rows.count_pairs.Goals as goal
 

@@ -1,9 +1,9 @@
 use Rattle.std.proofs.Common.{◌≡◌, ℕ, ◌+◌, ◌≤◌}
 use Rattle.lisp_base.specs.Forest.{count_of}
-use Rattle.lisp_reader.specs.Data.{count_of as data_in}
+use Rattle.lisp_data.specs.Data.{count_of as data_in}
+use Rattle.form_shapes.specs.Scopes.{Scope}
+use Rattle.form_shapes.specs.Sizes.{size_of}
 use Rattle.lisp_forms.specs.Expansion.{pairs_in}
-use Rattle.lisp_forms.specs.Scopes.{Scope}
-use Rattle.lisp_forms.specs.Sizes.{size_of}
 use Rattle.lisp_forms.proofs.rows.count_pairs.Given as goal
 
 -- those so far, with those of what is left, are all

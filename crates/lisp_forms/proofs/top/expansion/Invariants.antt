@@ -1,5 +1,6 @@
 use Rattle.std.proofs.Common.{◌≡◌, ◌++◌, drop}
-use Rattle.lisp_forms.specs.Contexts.{known_as, scope_at}
+use Rattle.form_shapes.specs.Contexts.{scope_at}
+use Rattle.lisp_forms.specs.Known.{known_as}
 use Rattle.lisp_forms.specs.Flat.{flat}
 use Rattle.lisp_forms.specs.Program
 use Rattle.lisp_forms.proofs.top.expansion.Given as goal

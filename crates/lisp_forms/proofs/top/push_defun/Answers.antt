@@ -1,12 +1,12 @@
 use Rattle.std.proofs.Common.{◌++◌, ◌∷◌, [], ◌∙◌, ap}
-use Rattle.lisp_forms.specs.declared.expanded.Expanded.TheVariants.{Defun}
-use Rattle.lisp_forms.specs.declared.levels.Level.TheVariants.{Block}
-use Rattle.lisp_forms.specs.Bindings.{function_body_of}
-use Rattle.lisp_forms.specs.Contexts.{scope_at, with_opened}
+use Rattle.form_shapes.specs.declared.expanded.Expanded.TheVariants.{Defun}
+use Rattle.form_shapes.specs.declared.levels.Level.TheVariants.{Block}
+use Rattle.form_shapes.specs.Bindings.{function_body_of}
+use Rattle.form_shapes.specs.Contexts.{scope_at, with_opened}
+use Rattle.form_shapes.specs.Places.{parameters_in}
+use Rattle.form_shapes.specs.Scopes.{Scope, inside}
 use Rattle.lisp_forms.specs.Expansion.{forms_in}
 use Rattle.lisp_forms.specs.Flat.{flat, node}
-use Rattle.lisp_forms.specs.Places.{parameters_in}
-use Rattle.lisp_forms.specs.Scopes.{Scope, inside}
 use Rattle.lisp_forms.proofs.Lambdas.{within-depth}
 use Rattle.lisp_forms.proofs.Tops.{written_defun}
 use Rattle.lisp_forms.proofs.top.push_defun.Goals as goal

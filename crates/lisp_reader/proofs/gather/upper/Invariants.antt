@@ -1,5 +1,5 @@
-use Rattle.std.proofs.Common.{◌≡◌, map, take, string_bytes}
 use Rattle.std.specs.Char.{to_ascii_uppercase}
+use Rattle.std.proofs.Common.{◌≡◌, map, take, string_bytes}
 use Rattle.lisp_reader.proofs.gather.upper.Given as goal
 
 abbrev pub invariant-loop-letter : goal.invariant-loop-letter

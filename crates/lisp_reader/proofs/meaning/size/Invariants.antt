@@ -1,5 +1,5 @@
-use Rattle.std.proofs.Common.{◌≡◌, min, take}
 use Rattle.std.specs.Str.Parse.{digits_value}
+use Rattle.std.proofs.Common.{◌≡◌, min, take}
 use Rattle.lisp_reader.specs.declared.meaning.TheConstants.{TOO_LARGE}
 use Rattle.lisp_reader.proofs.meaning.size.Given as goal
 

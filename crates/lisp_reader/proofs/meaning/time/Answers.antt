@@ -1,5 +1,5 @@
-use Rattle.std.proofs.Common.{◌≡◌, ◌+◌, ◌*◌, ◌<◌, arith}
 use Rattle.std.specs.Char.{is_ascii_digit}
+use Rattle.std.proofs.Common.{◌≡◌, ◌+◌, ◌*◌, ◌<◌, arith}
 use Rattle.lisp_reader.specs.Meanings.{micros_in}
 use Rattle.lisp_reader.proofs.Sized.{front_passes, micros_are}
 use Rattle.lisp_reader.proofs.meaning.time.Goals as goal

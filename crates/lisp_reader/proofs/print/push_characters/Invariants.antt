@@ -1,6 +1,6 @@
-use Rattle.std.proofs.Common.{◌≡◌, ◌++◌, encode_utf8_all}
 use Rattle.std.specs.List.{flat_map}
 use Rattle.std.specs.String.{string_bytes}
+use Rattle.std.proofs.Common.{◌≡◌, ◌++◌, encode_utf8_all}
 use Rattle.lisp_reader.specs.Printing.{escaped_byte}
 use Rattle.lisp_reader.proofs.print.push_characters.Given as goal
 

@@ -1,5 +1,5 @@
-use Rattle.std.proofs.Common.{◌≡◌, length}
 use Rattle.std.specs.Prelude.{reverse}
+use Rattle.std.proofs.Common.{◌≡◌, length}
 use Rattle.lisp_reader.specs.Gathering.{settled}
 use Rattle.lisp_reader.proofs.opens.Opens.settle.Given as goal
 

@@ -1,0 +1,14 @@
+use Rattle.std.proofs.Common.{◌≡◌, ◌≤◌}
+use Rattle.form_shapes.specs.Bindings
+use Rattle.form_shapes.specs.Sizes.{size_of}
+use Rattle.form_shapes.proofs.bindings.body_of.Given as goal
+
+-- the forms of what is left are those of all, and what is left is no larger
+abbrev pub invariant-loop-first : goal.invariant-loop-first
+invariant-loop-first l = record {
+  same : Bindings.body_of l.symbols l.left ≡ Bindings.body_of l.symbols l.fn.items;
+  smaller : size_of l.left ≤ size_of l.fn.items;
+}
+
+abbrev pub decreases-loop-first : goal.decreases-loop-first
+decreases-loop-first l = size_of l.left

@@ -1,0 +1,10 @@
+pub mod Levels
+pub mod Scopes
+pub mod Bindings
+pub mod Keywords
+pub mod Clauses
+pub mod Shapes
+pub mod Contexts
+pub mod Places
+pub mod One
+pub mod Sizes

@@ -1,0 +1,69 @@
+-- What stands in a function's place.
+use Rattle.std.specs.Prelude.{ℕ, List, [], ◌&&◌, ◌==◌, Option, Some, None, if◌then◌else◌, nat_lt, codes}
+use Rattle.lisp_base.specs.declared.id.FunctionName.TheVariants.{Named}
+use Rattle.lisp_program.specs.declared.form.CoreKind.TheVariants.{Function as FunctionForm}
+use Rattle.lisp_data.specs.Data.{Data, NoData, Atom, Listed, behind, count_of}
+use Rattle.lisp_operators.specs.declared.operator.Operator.{Operator}
+use Rattle.lisp_operators.specs.declared.operator.Operator.TheVariants as op
+use Rattle.form_shapes.specs.declared.expanded.Expanded.{Expanded}
+use Rattle.form_shapes.specs.declared.expanded.Expanded.TheVariants.{Form, Lambda, Defun, Refused, RefusedFunction}
+use Rattle.form_shapes.specs.declared.place.Placed.{Placed}
+use Rattle.form_shapes.specs.declared.place.Placed.TheVariants.{Made, Inner, Other}
+use Rattle.form_shapes.specs.declared.shape.Shape.{Shape}
+use Rattle.form_shapes.specs.declared.shape.Shape.TheVariants as shape
+use Rattle.form_shapes.specs.Bindings.{is_named, list_fault, or_none, parameters_of, received}
+use Rattle.form_shapes.specs.Scopes.{Scope, first_symbol, has, leaf_symbol, operator_at, with_open}
+use Rattle.form_shapes.specs.Shapes.{shape_of}
+
+-- A form that may not stand here is refused with 14, or with a lesser number that it is refused with at the same place.
+abbrev pub misplaced_number : ℕ → ℕ
+misplaced_number number = if nat_lt number 14 then number else 14
+
+-- the same of what stands for it by itself
+abbrev pub misplaced_kind : Expanded → Expanded
+misplaced_kind (Form kind) = Refused 14
+misplaced_kind (Lambda parameters) = Refused 14
+misplaced_kind (Defun f parameters) = Refused 14
+misplaced_kind (Refused number) = Refused (misplaced_number number)
+misplaced_kind (RefusedFunction number) = Refused (misplaced_number number)
+
+-- the same of a list of this shape, at a place
+abbrev pub misplaced_shape : ℕ → Shape → Expanded
+misplaced_shape p (shape.Wrong number q) = if q == p then Refused (misplaced_number number) else Refused 14
+misplaced_shape p (shape.Leaf kind) = misplaced_kind kind
+misplaced_shape p _ = Refused 14
+
+-- a `lambda` with this fault of its parameters, or none; where only two are the same, it counts as a function
+abbrev pub lambda_placed : Option ℕ → Placed
+lambda_placed None = Made
+lambda_placed (Some number) = Other (if number == 18 then RefusedFunction 18 else Refused number)
+
+-- `#'` of what may be the name of a function
+abbrev pub name_placed : Scope → Option ℕ → Placed
+name_placed s None = Other (Refused 12)
+name_placed s (Some x) = Other (if has s.functions x then Form (FunctionForm (Named x)) else Refused 11)
+
+-- `#'` of these: of a name, or of a `lambda`, which stands for itself
+abbrev pub function_placed : Scope → Data → Placed
+function_placed s NoData = Other (Refused 12)
+function_placed s (Atom leaf q beside) = if count_of beside == 0 then name_placed s (leaf_symbol leaf) else Other (Refused 12)
+function_placed s (Listed q under beside) =
+    if (count_of beside == 0) && is_named s.names (codes "LAMBDA") (first_symbol under) then Inner else Other (Refused 12)
+
+-- what a list with this operator is in a function's place
+abbrev pub placed_by : Scope → ℕ → Option Operator → Data → Placed
+placed_by s p (Some op.Lambda) under = lambda_placed (list_fault s.names (parameters_of (behind 1 under)))
+placed_by s p (Some op.Function) under = function_placed s (behind 1 under)
+placed_by s p _ under = Other (misplaced_shape p (shape_of s p under))
+
+-- what a list of these, which is at a place, is in a function's place
+abbrev pub placed_of : Scope → ℕ → Data → Placed
+placed_of s p under = placed_by s p (operator_at s (first_symbol under)) under
+
+-- the parameters of a `lambda` with these arguments; what one without its shape has does not matter
+abbrev pub parameters_in : Data → List ℕ
+parameters_in args = or_none (parameters_of args)
+
+-- what the body of a function with these parameters is read by: nothing that is open round the function
+abbrev pub scope_within : Scope → List ℕ → Scope
+scope_within s parameters = received (with_open s [] 0) parameters

@@ -1,0 +1,173 @@
+ghost use Rattle.std.specs.Prelude.{◌≡◌};
+ghost use Rattle.form_shapes.specs.Contexts.{scope_in};
+ghost use Rattle.form_shapes.specs.Shapes;
+
+use crate::bindings::MOST;
+use crate::expanded::Expanded;
+use crate::keywords::{Roles, first_key, keys_in, positional, roles_of, second_key, with_keys};
+use crate::refusal::TOO_MANY;
+use crate::scope::{Context, constant, first_symbol, is_named};
+use crate::shape::{Shape, bad, fixed};
+use lisp_base::condition::{Class, Condition};
+use lisp_base::id::{Place, SymbolId};
+use lisp_base::value::Node;
+use lisp_data::datum::Leaf;
+use lisp_data::items::{First, Items};
+use lisp_operators::control::{has_tilde, taken_by, text_of};
+use lisp_program::form::CoreKind;
+use lisp_program::function::{Primitive, Printing, Service};
+use symbol_table::symbols::Symbols;
+
+/// What a fold of no arguments gives.
+fn fold_of_none(place: Place, function: Primitive) -> Shape
+    ensures { result ≡ Shapes.fold_of_none place function }
+{
+    match function {
+        Primitive::Add => Shape::Leaf(constant(Node::Int(0))),
+        Primitive::Multiply => Shape::Leaf(constant(Node::Int(1))),
+        _ => bad(place),
+    }
+}
+
+/// A fold of one argument.
+fn fold_of_one(function: Primitive) -> Shape
+    ensures { result ≡ Shapes.fold_of_one function }
+{
+    match function {
+        Primitive::Max | Primitive::Min => Shape::Twice(function),
+        _ => Shape::Fold(function),
+    }
+}
+
+/// A function that is folded over these arguments.
+pub fn fold_shape(place: Place, function: Primitive, arguments: &Items) -> Shape
+    ensures { result ≡ Shapes.fold_shape place function arguments.now }
+{
+    let count = arguments.count();
+    if count == 0 {
+        return fold_of_none(place, function);
+    }
+    if count > MOST {
+        return Shape::Wrong(TOO_MANY, place);
+    }
+    if count == 1 {
+        return fold_of_one(function);
+    }
+    Shape::Fold(function)
+}
+
+/// A call of a function of the program.
+pub fn call_shape(place: Place, name: SymbolId, arguments: &Items) -> Shape
+    ensures { result ≡ Shapes.call_shape place name arguments.now }
+{
+    if arguments.count() > MOST {
+        return Shape::Wrong(TOO_MANY, place);
+    }
+    Shape::Over(CoreKind::Call(name), Roles::From(0))
+}
+
+/// A service with these arguments, which are its own and then keywords.
+fn keyed_shape(symbols: &Symbols, place: Place, service: Service, arguments: &Items) -> Shape
+    ensures { result ≡ Shapes.keyed_shape symbols.now place service arguments.now }
+{
+    let own = positional(service);
+    if arguments.count() < own {
+        return bad(place);
+    }
+    let first = first_key(service);
+    let second = second_key(service);
+    match keys_in(symbols, first, second, arguments.skip(own)) {
+        None => bad(place),
+        Some(keys) => Shape::Over(
+            CoreKind::Serve(with_keys(service, keys.first, keys.second)),
+            roles_of(service),
+        ),
+    }
+}
+
+/// `condition-notify`, with or without how many.
+fn notify_shape(place: Place, arguments: &Items) -> Shape
+    ensures { result ≡ Shapes.notify_shape place arguments.now }
+{
+    if arguments.count() == 2 {
+        let service = Service::ConditionNotify { count: true };
+        return Shape::Over(CoreKind::Serve(service), Roles::From(0));
+    }
+    let service = Service::ConditionNotify { count: false };
+    fixed(place, CoreKind::Serve(service), 1, arguments)
+}
+
+/// A service with these arguments.
+pub fn serve_shape(symbols: &Symbols, place: Place, service: Service, arguments: &Items) -> Shape
+    ensures { result ≡ Shapes.serve_shape symbols.now place service arguments.now }
+{
+    match service {
+        Service::ConditionNotify { .. } => notify_shape(place, arguments),
+        _ => keyed_shape(symbols, place, service, arguments),
+    }
+}
+
+/// `error` with a text.
+fn error_of(context: &Context, place: Place, leaf: Leaf) -> Shape
+    ensures { result ≡ Shapes.error_of (scope_in context.now) place leaf }
+{
+    match leaf {
+        Leaf::Text(text) => {
+            if has_tilde(text_of(context.texts, text)) {
+                return bad(place);
+            }
+            Shape::Leaf(Expanded::Form(CoreKind::Signal(Condition {
+                class: Class::SimpleError,
+                text: Some(text),
+            })))
+        }
+        _ => bad(place),
+    }
+}
+
+/// `error` with these arguments.
+pub fn error_shape(context: &Context, place: Place, arguments: &Items) -> Shape
+    ensures { result ≡ Shapes.error_shape (scope_in context.now) place arguments.now }
+{
+    let Some((first, others)) = arguments.split_first() else {
+        return bad(place);
+    };
+    match first {
+        First::Leaf(leaf, _) if others.count() == 0 => error_of(context, place, leaf),
+        _ => bad(place),
+    }
+}
+
+/// `format` with this control and so many arguments.
+fn format_of(context: &Context, place: Place, leaf: Leaf, given: u32) -> Shape
+    ensures { result ≡ Shapes.format_of (scope_in context.now) place leaf given }
+{
+    let Leaf::Text(text) = leaf else {
+        return bad(place);
+    };
+    match taken_by(text_of(context.texts, text)) {
+        None => bad(place),
+        Some(taken) if (given as usize) < taken => bad(place),
+        Some(_) if given > MOST => Shape::Wrong(TOO_MANY, place),
+        Some(_) => Shape::Over(
+            CoreKind::Print(Printing::Format(text, given)),
+            Roles::From(2),
+        ),
+    }
+}
+
+/// `format` with these arguments.
+pub fn format_shape(context: &Context, place: Place, arguments: &Items) -> Shape
+    ensures { result ≡ Shapes.format_shape (scope_in context.now) place arguments.now }
+{
+    if !is_named(context.symbols, "T", first_symbol(arguments)) {
+        return bad(place);
+    }
+    let Some((first, others)) = arguments.skip(1).split_first() else {
+        return bad(place);
+    };
+    match first {
+        First::Leaf(leaf, _) => format_of(context, place, leaf, others.count()),
+        First::List(_, _) => bad(place),
+    }
+}

@@ -1,0 +1,18 @@
+//! Which shape a datum has as a form, by what is open round it.
+#![tactic(auto)]
+
+pub mod bindings;
+mod call_shapes;
+pub mod clause;
+mod control_shapes;
+pub mod expanded;
+pub mod keywords;
+mod led;
+pub mod levels;
+pub mod place;
+pub mod refusal;
+pub mod scope;
+pub mod shape;
+pub mod single;
+mod value_shapes;
+pub mod within;

@@ -1,0 +1,133 @@
+ghost use Rattle.std.specs.Prelude.{◌≡◌, IfOk};
+ghost use Rattle.form_shapes.specs.Contexts.{scope_in};
+ghost use Rattle.form_shapes.specs.Places;
+
+use crate::bindings::{list_fault, parameters_of};
+use crate::expanded::Expanded;
+use crate::led::shape_led;
+use crate::refusal::{BAD_FORM, DEFINED_TWICE, FUNCTION_PLACE, UNKNOWN_OPERATOR};
+use crate::scope::{Context, first_symbol, has, is_named, leaf_symbol, operator_at};
+use crate::shape::Shape;
+use lisp_base::id::{FunctionName, Place, SymbolId};
+use lisp_base::memory::Memory;
+use lisp_data::items::{First, Items};
+use lisp_operators::operator::Operator;
+use lisp_program::form::CoreKind;
+use std::alloc::Global;
+
+/// What a list is in a function's place.
+#[derive(Clone, Copy, Debug, PartialEq, Eq)]
+pub enum Placed {
+    /// A `lambda`.
+    Made,
+    /// `#'` of a `lambda`, which stands for itself.
+    Inner,
+    /// A name of a function, or what is refused.
+    Other(Expanded),
+}
+
+/// A number with which a form that may not stand here is refused: the lesser of 14 and the number with which it is refused there.
+fn misplaced_number(number: u32) -> u32
+    ensures { result ≡ Places.misplaced_number number }
+{
+    if number < FUNCTION_PLACE {
+        number
+    } else {
+        FUNCTION_PLACE
+    }
+}
+
+/// What stands for a form that may not stand here.
+pub fn misplaced_kind(kind: Expanded) -> Expanded
+    ensures { result ≡ Places.misplaced_kind kind }
+{
+    match kind {
+        Expanded::Refused(number) | Expanded::RefusedFunction(number) => {
+            Expanded::Refused(misplaced_number(number))
+        }
+        _ => Expanded::Refused(FUNCTION_PLACE),
+    }
+}
+
+/// The same for a list of this shape.
+fn misplaced_shape(place: Place, shape: &Shape) -> Expanded
+    ensures { result ≡ Places.misplaced_shape place shape.now }
+{
+    match shape {
+        Shape::Wrong(number, at) if at.0 == place.0 => {
+            Expanded::Refused(misplaced_number(*number))
+        }
+        Shape::Leaf(kind) => misplaced_kind(*kind),
+        _ => Expanded::Refused(FUNCTION_PLACE),
+    }
+}
+
+/// A `lambda` with this fault of its parameters, or none.
+fn lambda_placed(fault: Option<u32>) -> Placed
+    ensures { result ≡ Places.lambda_placed fault }
+{
+    match fault {
+        None => Placed::Made,
+        Some(DEFINED_TWICE) => Placed::Other(Expanded::RefusedFunction(DEFINED_TWICE)),
+        Some(number) => Placed::Other(Expanded::Refused(number)),
+    }
+}
+
+/// `#'` of what may be the name of a function.
+fn name_placed(context: &Context, name: Option<SymbolId>) -> Placed
+    ensures { result ≡ Places.name_placed (scope_in context.now) name }
+{
+    let Some(name) = name else {
+        return Placed::Other(Expanded::Refused(BAD_FORM));
+    };
+    if has(context.functions, name) {
+        let function = CoreKind::Function(FunctionName::Named(name));
+        return Placed::Other(Expanded::Form(function));
+    }
+    Placed::Other(Expanded::Refused(UNKNOWN_OPERATOR))
+}
+
+/// `#'` of these.
+fn function_placed(context: &Context, arguments: &Items) -> Placed
+    ensures { result ≡ Places.function_placed (scope_in context.now) arguments.now }
+{
+    let Some((first, others)) = arguments.split_first() else {
+        return Placed::Other(Expanded::Refused(BAD_FORM));
+    };
+    if others.count() != 0 {
+        return Placed::Other(Expanded::Refused(BAD_FORM));
+    }
+    match first {
+        First::Leaf(leaf, _) => name_placed(context, leaf_symbol(leaf)),
+        First::List(_, under) => {
+            if is_named(context.symbols, "LAMBDA", first_symbol(&under)) {
+                Placed::Inner
+            } else {
+                Placed::Other(Expanded::Refused(BAD_FORM))
+            }
+        }
+    }
+}
+
+/// What a list of these, which is at a place, is in a function's place.
+pub fn placed_of(
+    alloc: Global,
+    context: &Context,
+    place: Place,
+    under: &Items,
+) -> Result<Placed, Memory>
+    ensures { IfOk result (λ placed. placed ≡ Places.placed_of (scope_in context.now) place under.now) }
+{
+    let operator = operator_at(context, first_symbol(under));
+    match operator {
+        Some(Operator::Lambda) => {
+            let parameters = parameters_of(alloc, &under.skip(1))?;
+            Ok(lambda_placed(list_fault(context.symbols, &parameters)))
+        }
+        Some(Operator::Function) => Ok(function_placed(context, &under.skip(1))),
+        _ => match shape_led(alloc, context, place, operator, under.skip(1)) {
+            Ok(shape) => Ok(Placed::Other(misplaced_shape(place, &shape))),
+            Err(memory) => Err(memory),
+        },
+    }
+}

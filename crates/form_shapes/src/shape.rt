@@ -1,0 +1,109 @@
+ghost use Rattle.std.specs.Prelude.{◌≡◌};
+ghost use Rattle.form_shapes.specs.Shapes;
+
+use crate::expanded::Expanded;
+use crate::keywords::Roles;
+use crate::refusal::BAD_FORM;
+use crate::scope::Target;
+use lisp_base::id::{Place, SymbolId};
+use lisp_data::items::Items;
+use lisp_program::form::CoreKind;
+use lisp_program::function::Primitive;
+
+/// What a list is.
+#[derive(Clone, Copy, Debug, PartialEq, Eq)]
+pub enum Shape {
+    /// It is refused with this number at this place.
+    Wrong(u32, Place),
+    /// Nothing stands under it.
+    Leaf(Expanded),
+    /// A form of this kind with its arguments under it, by what they are for.
+    Over(CoreKind, Roles),
+    /// The same with NIL behind them.
+    OverNil(CoreKind, Roles),
+    When,
+    Unless,
+    Cond,
+    And,
+    Or,
+    Prog1,
+    /// `setq` of one variable or more.
+    Setq,
+    /// `incf` or `decf` of this variable, by this function.
+    Change(Target, Primitive),
+    /// A function of two that is folded over the arguments.
+    Fold(Primitive),
+    /// A function of two, of one argument twice.
+    Twice(Primitive),
+    Let,
+    LetStar,
+    /// A form of this kind with a body under it.
+    Body(CoreKind),
+    /// `with-local-interrupts`, in the `without-interrupts` with this number.
+    LocalInterrupts(u32),
+    /// `without-interrupts`.
+    Without,
+    /// A block with this name.
+    Block(SymbolId),
+    Catch,
+    Loop,
+    /// `dotimes` with this variable.
+    Dotimes(SymbolId),
+    IgnoreErrors,
+    /// `handler-case`.
+    Handler,
+    /// `with-deadline`, with what is written.
+    Deadline { seconds: bool, replaces: bool },
+    /// `with-mutex`, with what is written.
+    Mutex { waitp: bool, timeout: bool },
+    /// `with-recursive-lock`.
+    RecursiveLock,
+    /// `with-timeout`.
+    Timeout,
+    /// `terminate-thread`.
+    Terminate,
+    /// A `defun` of this function, at top level.
+    Defun(SymbolId),
+}
+
+/// A list that does not have its shape.
+pub fn bad(place: Place) -> Shape
+    ensures { result ≡ Shapes.bad place }
+{
+    Shape::Wrong(BAD_FORM, place)
+}
+
+/// A list that may have its shape: where it does not hold, it is bad.
+pub fn where_holds(place: Place, holds: bool, shape: Shape) -> Shape
+    ensures { result ≡ Shapes.where_holds place holds shape }
+{
+    if holds { shape } else { bad(place) }
+}
+
+/// A form of this kind with exactly so many arguments.
+pub fn fixed(place: Place, kind: CoreKind, wanted: u32, arguments: &Items) -> Shape
+    ensures { result ≡ Shapes.fixed place kind wanted arguments.now }
+{
+    where_holds(
+        place,
+        arguments.count() == wanted,
+        Shape::Over(kind, Roles::From(0)),
+    )
+}
+
+/// A form with at least so many arguments.
+pub fn at_least(place: Place, wanted: u32, arguments: &Items, shape: Shape) -> Shape
+    ensures { result ≡ Shapes.at_least place wanted arguments.now shape }
+{
+    where_holds(place, arguments.count() >= wanted, shape)
+}
+
+/// A list whose variables have this fault or none.
+pub fn faultless(place: Place, fault: Option<u32>, shape: Shape) -> Shape
+    ensures { result ≡ Shapes.faultless place fault shape }
+{
+    match fault {
+        None => shape,
+        Some(number) => Shape::Wrong(number, place),
+    }
+}

@@ -1,9 +1,0 @@
-use Rattle.std.proofs.Common.{◌≡◌, drop}
-use Rattle.lisp_forms.specs.Bindings
-use Rattle.lisp_forms.specs.Contexts.{scope_in, with_opened}
-use Rattle.lisp_forms.proofs.bindings.opened.Given as goal
-
--- what the variables that are left open in what is open so far is all
-abbrev pub invariant-loop-variable : goal.invariant-loop-variable
-invariant-loop-variable l =
-    Bindings.opened (with_opened (scope_in l.context) l.opened) (drop l.variable-index l.variables) ≡ Bindings.opened (scope_in l.context) l.variables

@@ -1,6 +1,0 @@
-use Rattle.std.proofs.Common.{◌∙◌}
-use Rattle.lisp_forms.proofs.Served.{keyed_otherwise}
-use Rattle.lisp_forms.proofs.call_shapes.serve_shape.Goals as goal
-
-pub returns-in_default : goal.returns-in_default
-returns-in_default c = c.keyed_shape.ensures ∙ keyed_otherwise c.args.symbols.now c.args.place c.args.service c.args.arguments.now c.in_default.not-ConditionNotify

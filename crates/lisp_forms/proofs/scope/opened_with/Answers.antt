@@ -1,7 +1,0 @@
-use Rattle.std.proofs.Common.{◌∙◌, ap}
-use Rattle.lisp_forms.specs.Contexts.{scope_in}
-use Rattle.lisp_forms.specs.Scopes
-use Rattle.lisp_forms.proofs.scope.opened_with.Goals as goal
-
-pub returns : goal.returns
-returns c = c.in_ok-open.ensures (scope_in c.args.context.now) ∙ ap (λ s. Scopes.inside s c.args.level) c.in_ok-opened.ensures

@@ -1,0 +1,5 @@
+//! Tests of the top calls, as programs with all that is written for them. They stand apart so that `lisp_session` is checked once.
+#![tactic(auto)]
+
+#[cfg(test)]
+mod sessions;
