@@ -1,3 +1,4 @@
+use lisp_base::memory::Memory;
 use lisp_edge::clock::VirtualClock;
 use lisp_edge::gate::OpenGate;
 use lisp_edge::memory::{MemorySink, MemorySource};
@@ -158,8 +159,16 @@ status 0
 end
 ";
 
+/// What was made; a test fails where memory runs out.
+fn made<T: Drop>(outcome: Result<T, Memory>) -> Result<T, Fail> {
+    match outcome {
+        Ok(value) => Ok(value),
+        Err(Memory) => Err("memory ran out".into()),
+    }
+}
+
 /// Runs a text over memory, where these calls of source and sink fail: the status, and what the sink holds then.
-fn run(alloc: Global, text: &[u8], reads: &[u32], writes: &[u32]) -> Result<(u8, Vec<u8>), Fail> {
+fn run(alloc: Global, text: &[u8], reads: &[u32], writes: &[u32]) -> Result<(u8, Vec<u8>), Memory> {
     let mut source = MemorySource::new(
         Vec::from_slice(alloc, text)?,
         Vec::from_slice(alloc, reads)?,
@@ -191,7 +200,7 @@ fn programs_run(rt: HostRuntime) -> Result<(), Fail> {
         (b"*x* (DEFVAR *x* 'a)", UNBOUND),
         (b"(print (+ 1 2 3)) (+) (+ 4) (let () :a) 1.5", SEVERAL_SUMS),
     ] {
-        let (status, held) = run(rt.alloc(), text, &[], &[])?;
+        let (status, held) = made(run(rt.alloc(), text, &[], &[]))?;
         assert_eq!(rt; status, 0);
         assert_eq!(rt; held.as_slice(), written);
     }
@@ -226,7 +235,7 @@ fn failing_ends(rt: HostRuntime) -> Result<(), Fail> {
         (&[1], &[], 5),
         (&[], &[0], 6),
     ] {
-        let (status, held) = run(rt.alloc(), b"(print (+ 1 2))", reads, writes)?;
+        let (status, held) = made(run(rt.alloc(), b"(print (+ 1 2))", reads, writes))?;
         assert_eq!(rt; status, expected);
         assert_eq!(rt; held.as_slice(), b"".as_slice());
     }
@@ -234,7 +243,7 @@ fn failing_ends(rt: HostRuntime) -> Result<(), Fail> {
 }
 
 /// So many `(print `, a 1, and as many `)`.
-fn nested(alloc: Global, depth: usize) -> Result<Vec<u8>, Fail> {
+fn nested(alloc: Global, depth: usize) -> Result<Vec<u8>, Memory> {
     let mut text = Vec::new(alloc);
     for _ in 0..depth {
         text.extend_from_slice(b"(print ")?;
@@ -267,7 +276,7 @@ fn programs_are_refused(rt: HostRuntime) -> Result<(), Fail> {
     assert_eq!(rt; REFUSED.lines().count(), 13);
     for case in REFUSED.lines() {
         let (text, wanted) = case.split_once(" => ").unwrap_or((case, ""));
-        let (status, held) = run(alloc, text.as_bytes(), &[], &[])?;
+        let (status, held) = made(run(alloc, text.as_bytes(), &[], &[]))?;
         assert_eq!(rt; status, 4);
         assert!(rt;
             held.as_slice().strip_suffix(b"\n") == Some(wanted.as_bytes()),
@@ -278,7 +287,7 @@ fn programs_are_refused(rt: HostRuntime) -> Result<(), Fail> {
 }
 
 /// So many different names of three letters, or string literals of these, each four or six bytes long.
-fn names(alloc: Global, count: usize, are_texts: bool) -> Result<Vec<u8>, Fail> {
+fn names(alloc: Global, count: usize, are_texts: bool) -> Result<Vec<u8>, Memory> {
     let mut text = Vec::new(alloc);
     for number in 0..count {
         let name = [
@@ -303,18 +312,18 @@ fn long_texts_are_refused(rt: HostRuntime) -> Result<(), Fail> {
     let alloc = rt.alloc();
     for (text, line) in [
         (Vec::from_slice(alloc, b"\xff")?, "refused 1 NotUtf8 at 0\n"),
-        (nested(alloc, 257)?, "refused 6 TooDeep at 1792\n"),
+        (made(nested(alloc, 257))?, "refused 6 TooDeep at 1792\n"),
         (
-            names(alloc, 4_092, false)?,
+            made(names(alloc, 4_092, false))?,
             "refused 8 TooManySymbols at 16364\n",
         ),
         (
-            names(alloc, 4_097, true)?,
+            made(names(alloc, 4_097, true))?,
             "refused 9 TooManyTexts at 24576\n",
         ),
-        (sum(alloc, 65)?, "refused 17 TooMany at 0\n"),
+        (made(sum(alloc, 65))?, "refused 17 TooMany at 0\n"),
     ] {
-        let (status, held) = run(alloc, text.as_slice(), &[], &[])?;
+        let (status, held) = made(run(alloc, text.as_slice(), &[], &[]))?;
         assert_eq!(rt; status, 4);
         assert_eq!(rt; held.as_slice(), line.as_bytes());
     }
@@ -322,7 +331,7 @@ fn long_texts_are_refused(rt: HostRuntime) -> Result<(), Fail> {
 }
 
 /// A sum of so many numbers.
-fn sum(alloc: Global, count: usize) -> Result<Vec<u8>, Fail> {
+fn sum(alloc: Global, count: usize) -> Result<Vec<u8>, Memory> {
     let mut text = numbers(alloc, b"(+", count)?;
     text.push(b')')?;
     Ok(text)
@@ -332,14 +341,14 @@ fn sum(alloc: Global, count: usize) -> Result<Vec<u8>, Fail> {
 fn limits_of_texts(rt: HostRuntime) -> Result<(), Fail> {
     let alloc = rt.alloc();
     for (depth, expected) in [(256, 0), (257, 4)] {
-        let (status, _) = run(alloc, nested(alloc, depth)?.as_slice(), &[], &[])?;
+        let (status, _) = made(run(alloc, made(nested(alloc, depth))?.as_slice(), &[], &[]))?;
         assert_eq!(rt; status, expected);
     }
     for (length, expected, written) in [
         (1_048_576, 0, EMPTY_PROGRAM),
         (1_048_577, 4, b"refused 7 TooLong at 1048576\n".as_slice()),
     ] {
-        let (status, held) = run(alloc, vec![in alloc; b' '; length]?.as_slice(), &[], &[])?;
+        let (status, held) = made(run(alloc, vec![in alloc; b' '; length]?.as_slice(), &[], &[]))?;
         assert_eq!(rt; status, expected);
         assert_eq!(rt; held.as_slice(), written);
     }
@@ -347,7 +356,7 @@ fn limits_of_texts(rt: HostRuntime) -> Result<(), Fail> {
 }
 
 /// A form and so many numbers after it.
-fn numbers(alloc: Global, first: &[u8], count: usize) -> Result<Vec<u8>, Fail> {
+fn numbers(alloc: Global, first: &[u8], count: usize) -> Result<Vec<u8>, Memory> {
     let mut text = Vec::from_slice(alloc, first)?;
     for _ in 0..count {
         text.extend_from_slice(b" 1")?;
@@ -358,14 +367,19 @@ fn numbers(alloc: Global, first: &[u8], count: usize) -> Result<Vec<u8>, Fail> {
 #[test]
 fn limits_of_points(rt: HostRuntime) -> Result<(), Fail> {
     let alloc = rt.alloc();
-    let (status, _) = run(alloc, numbers(alloc, b"1", 49_999)?.as_slice(), &[], &[])?;
-    assert_eq!(rt; status, 0);
-    let (status, held) = run(
+    let (status, _) = made(run(
         alloc,
-        numbers(alloc, b"(print 1)", 49_999)?.as_slice(),
+        made(numbers(alloc, b"1", 49_999))?.as_slice(),
         &[],
         &[],
-    )?;
+    ))?;
+    assert_eq!(rt; status, 0);
+    let (status, held) = made(run(
+        alloc,
+        made(numbers(alloc, b"(print 1)", 49_999))?.as_slice(),
+        &[],
+        &[],
+    ))?;
     assert_eq!(rt; status, 3);
     assert_eq!(rt; held.as_slice(), OUT_OF_POINTS);
     Ok(())
@@ -374,9 +388,9 @@ fn limits_of_points(rt: HostRuntime) -> Result<(), Fail> {
 #[test]
 fn points_end_in_a_let(rt: HostRuntime) -> Result<(), Fail> {
     let alloc = rt.alloc();
-    let mut text = numbers(alloc, b"(defvar *x* 0) (let ((*x* 1))", 49_998)?;
+    let mut text = made(numbers(alloc, b"(defvar *x* 0) (let ((*x* 1))", 49_998))?;
     text.push(b')')?;
-    let (status, held) = run(alloc, text.as_slice(), &[], &[])?;
+    let (status, held) = made(run(alloc, text.as_slice(), &[], &[]))?;
     assert_eq!(rt; status, 3);
     assert_eq!(rt; held.as_slice(), OUT_OF_POINTS_IN_A_LET);
     Ok(())
@@ -389,11 +403,11 @@ fn points_end_in_an_exit(rt: HostRuntime) -> Result<(), Fail> {
         (49_992, 3, OUT_OF_POINTS_IN_AN_EXIT),
         (49_991, 0, ENDS_AT_THE_LAST_POINT),
     ] {
-        let mut text = numbers(alloc, b"(defvar *x* 999999999999999999)", count)?;
+        let mut text = made(numbers(alloc, b"(defvar *x* 999999999999999999)", count))?;
         text.extend_from_slice(
             b" (let ((*x* (+ *x* *x*))) (let ((*x* (+ *x* *x*))) (+ *x* *x*)))",
         )?;
-        let (status, held) = run(alloc, text.as_slice(), &[], &[])?;
+        let (status, held) = made(run(alloc, text.as_slice(), &[], &[]))?;
         assert_eq!(rt; status, expected);
         assert_eq!(rt; held.as_slice(), written);
     }
