@@ -16,9 +16,9 @@ use Rattle.world_semantics.specs.declared.phase.Ending.{Ending}
 use Rattle.world_semantics.specs.declared.op.Op.TheVariants.{Get, Set}
 use Rattle.world_semantics.specs.declared.op.Reply.{Reply}
 use Rattle.world_semantics.specs.declared.op.Reply.TheVariants.{Okay, Value, Unbound, Truth}
-use Rattle.form_steps.specs.declared.steps.Step.TheVariants.{Leave as LeaveStep}
-use Rattle.form_steps.specs.Steps.{steps_of}
-use Rattle.form_steps.proofs.Joined.{steps_of-joined}
+use Rattle.plain_program.specs.declared.steps.Step.TheVariants.{Leave as LeaveStep}
+use Rattle.plain_program.specs.Steps.{steps_of}
+use Rattle.plain_program.proofs.Joined.{steps_of-joined}
 use Rattle.thread_semantics.specs.Acts.{top, result_of}
 use Rattle.thread_semantics.specs.State.{FrameKind, BindFrame, Frame, Base, Control, At, Exit, Ended, ThreadState}
 use Rattle.thread_semantics.specs.Step.{next_of, local_step_of, after_reply, acted, ask_step, enter_step, leave_step, pop_step, put_back, has_room, unless_bound, asked, question_reply, read_reply, test_reply}

@@ -28,7 +28,7 @@ use Rattle.run_semantics.specs.Replay.{Configuration, IsLegalBy, AreLegal, MayDo
 use Rattle.form_evaluator.specs.declared.evaluator.Evaluator.{Evaluator}
 use Rattle.form_evaluator.specs.declared.run.Run.{Run}
 use Rattle.run_semantics.specs.Over.{goes_on}
-use Rattle.form_steps.specs.Steps.{steps_of}
+use Rattle.plain_program.specs.Steps.{steps_of}
 use Rattle.world_semantics.specs.declared.global.Global.{Global}
 use Rattle.world_semantics.specs.World.{unbound_all}
 use Rattle.form_evaluator.specs.Evaluator.{Stands, shown_bindings}

@@ -17,8 +17,8 @@ use Rattle.world_semantics.specs.declared.op.Reply.{Reply}
 use Rattle.world_semantics.specs.declared.op.Reply.TheVariants.{Okay, Value, Unbound, Truth}
 use Rattle.world_semantics.specs.declared.phase.Ending.{Ending}
 use Rattle.world_semantics.specs.declared.phase.Ending.TheVariants.{Returned, Aborted}
-use Rattle.form_steps.specs.declared.steps.Step.{Step}
-use Rattle.form_steps.specs.declared.steps.Step.TheVariants.{Act, Ask, Test, Enter, Leave}
+use Rattle.plain_program.specs.declared.steps.Step.{Step}
+use Rattle.plain_program.specs.declared.steps.Step.TheVariants.{Act, Ask, Test, Enter, Leave}
 use Rattle.thread_semantics.specs.declared.next.Next.{Next}
 use Rattle.thread_semantics.specs.declared.next.Next.TheVariants.{Local, Operation, Nothing}
 use Rattle.thread_semantics.specs.Acts.{top, result_of}

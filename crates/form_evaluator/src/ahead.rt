@@ -1,7 +1,7 @@
 ghost use Rattle.std.specs.Prelude.{◌≡◌, List, [], drop};
 ghost use Rattle.form_evaluator.specs.Lists.{front_of};
 
-use form_steps::steps::Step;
+use plain_program::steps::Step;
 use std::marker::Model;
 
 /// The steps that are still ahead, which contracts see as their list.
@@ -13,7 +13,7 @@ pub(crate) struct Ahead {
 
 impl Model for Ahead {
     ghost use Rattle.std.specs.Prelude.{◌≤◌, List, drop, length};
-    ghost use Rattle.form_steps.specs.declared.steps.Step.{Step};
+    ghost use Rattle.plain_program.specs.declared.steps.Step.{Step};
 
     ghost Value = { List Step };
 

@@ -11,13 +11,13 @@ ghost use Rattle.thread_semantics.specs.Step.{next_of, local_step_of, after_repl
 use crate::ahead::Ahead;
 use crate::stack::Stack;
 use binding_stack::bindings::{BINDINGS, BindingStack};
-use form_steps::steps::Step;
 use lisp_base::condition::{Class, Condition};
 use lisp_base::id::{Place, SymbolId};
 use lisp_base::memory::Memory;
 use lisp_base::sequence::Sequence;
 use lisp_base::value::{Node, Value};
 use plain_program::act::{Act, Opening, Question};
+use plain_program::steps::Step;
 use std::alloc::Global;
 use std::mem;
 use thread_semantics::next::Next;
@@ -31,7 +31,7 @@ const FRAMES: usize = 4096;
 const SYMBOLS: u32 = 1 << 31;
 
 /// What a thread is about.
-#[derive(Clone, Copy, Debug, PartialEq, Eq)]
+#[derive(Clone, Copy)]
 pub(crate) enum Doing {
     /// It takes the steps that are ahead.
     Running,

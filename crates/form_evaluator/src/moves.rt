@@ -5,12 +5,12 @@ ghost use Rattle.thread_semantics.specs.State.{ThreadState};
 ghost use Rattle.thread_semantics.specs.Step.{next_of, local_step_of, after_reply};
 
 use crate::evaluator::{Doing, Evaluator};
-use form_steps::steps::Step;
 use lisp_base::condition::Class;
 use lisp_base::id::SymbolId;
 use lisp_base::memory::Memory;
 use lisp_base::value::{Node, Value};
 use plain_program::act::Question;
+use plain_program::steps::Step;
 use std::alloc::Global;
 use thread_semantics::next::Next;
 use world_semantics::op::{Op, Printed, Reply};

@@ -11,11 +11,11 @@ ghost use Rattle.form_evaluator.specs.Running.{Ran, Stops, Goes, AsksFor, phase_
 use crate::evaluator::{Doing, Evaluator, OpenFrame};
 use crate::globals;
 use crate::stack::Stack;
-use form_steps::flatten::main_steps;
 use lisp_base::id::{Actor, SymbolId, ThreadId};
 use lisp_base::memory::Memory;
 use lisp_base::sequence::Sequence;
 use lisp_base::value::Value;
+use plain_program::flatten::main_steps;
 use plain_program::form::PlainNode;
 use run_semantics::report::{FrameWord, OpenForm, PhaseReport, Report, ThreadLine, ThreadReport};
 use std::alloc::Global;

@@ -6,3 +6,5 @@ pub mod Numbers
 pub mod Openings
 pub mod Counts
 pub mod Sized
+pub mod Chosen
+pub mod Taken

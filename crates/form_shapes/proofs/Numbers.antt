@@ -1,6 +1,6 @@
 -- The number of the innermost level that is sought, one by one.
 use Rattle.std.proofs.Common.{◌≡◌, ℕ, suc, ◌<◌, List, [], ◌∷◌, ◌++◌, true, false, Some, length, get_or, drop, ap, sym, ◌∙◌, arith, drop-cons, length-append}
-use Rattle.lisp_operators.proofs.Chosen.{first_of, other_of}
+use Rattle.form_shapes.proofs.Chosen.{first_of, other_of}
 use Rattle.form_shapes.specs.declared.levels.Level.{Level}
 use Rattle.form_shapes.specs.declared.levels.Numbered.{Numbered}
 use Rattle.form_shapes.specs.Levels.{is_level, number_of}

@@ -1,7 +1,7 @@
 -- What variables and parameters open, one by one.
 use Rattle.std.proofs.Common.{◌≡◌, ℕ, suc, ◌+◌, ◌<◌, List, ◌∷◌, true, false, Result, Ok, Err, OnOk, length, get_or, drop, ap, sym, ◌∙◌, drop-cons, add-one}
 use Rattle.lisp_base.specs.declared.memory.Memory.{Memory}
-use Rattle.lisp_operators.proofs.Chosen.{first_of, other_of}
+use Rattle.form_shapes.proofs.Chosen.{first_of, other_of}
 use Rattle.form_shapes.specs.declared.levels.Level.TheVariants.{Variable}
 use Rattle.form_shapes.specs.declared.scope.Opened.{Opened}
 use Rattle.form_shapes.specs.Bindings.{opened, opened_by, received, received_by}

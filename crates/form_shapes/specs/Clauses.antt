@@ -2,7 +2,7 @@
 use Rattle.std.specs.Prelude.{ℕ, List, Bool, true, false, ◌&&◌, Option, Some, None, nat_lt}
 use Rattle.lisp_base.specs.declared.condition.Class.{Class}
 use Rattle.lisp_data.specs.Data.{Data, NoData, Atom, Listed, behind, count_of}
-use Rattle.lisp_operators.specs.Operators.{class_named}
+use Rattle.form_shapes.specs.Operators.{class_named}
 use Rattle.form_shapes.specs.Scopes.{as_variable, first_symbol, name_of}
 
 -- the most clauses of one `handler-case`

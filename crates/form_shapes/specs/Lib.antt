@@ -1,3 +1,5 @@
+pub mod Operators
+pub mod Controls
 pub mod Levels
 pub mod Scopes
 pub mod Bindings

@@ -3,8 +3,8 @@ use Rattle.std.specs.Prelude.{ℕ, List, [], ◌&&◌, ◌==◌, Option, Some, N
 use Rattle.lisp_base.specs.declared.id.FunctionName.TheVariants.{Named}
 use Rattle.lisp_program.specs.declared.form.CoreKind.TheVariants.{Function as FunctionForm}
 use Rattle.lisp_data.specs.Data.{Data, NoData, Atom, Listed, behind, count_of}
-use Rattle.lisp_operators.specs.declared.operator.Operator.{Operator}
-use Rattle.lisp_operators.specs.declared.operator.Operator.TheVariants as op
+use Rattle.form_shapes.specs.declared.operator.Operator.{Operator}
+use Rattle.form_shapes.specs.declared.operator.Operator.TheVariants as op
 use Rattle.form_shapes.specs.declared.expanded.Expanded.{Expanded}
 use Rattle.form_shapes.specs.declared.expanded.Expanded.TheVariants.{Form, Lambda, Defun, Refused, RefusedFunction}
 use Rattle.form_shapes.specs.declared.place.Placed.{Placed}

@@ -9,9 +9,9 @@ use Rattle.lisp_program.specs.declared.form.CoreKind.TheVariants.{Constant as Co
 use Rattle.lisp_data.specs.Data.{Data, NoData, Atom, Listed}
 use Rattle.lisp_data.specs.declared.datum.Leaf.{Leaf}
 use Rattle.lisp_data.specs.declared.datum.Leaf.TheVariants.{Int, Symbol, Text, Time}
-use Rattle.lisp_operators.specs.declared.operator.Operator.{Operator}
-use Rattle.lisp_operators.specs.declared.operator.Operator.TheVariants.{Own}
-use Rattle.lisp_operators.specs.Operators.{is_constant, is_current_thread, operator_named}
+use Rattle.form_shapes.specs.declared.operator.Operator.{Operator}
+use Rattle.form_shapes.specs.declared.operator.Operator.TheVariants.{Own}
+use Rattle.form_shapes.specs.Operators.{is_constant, is_current_thread, operator_named}
 use Rattle.form_shapes.specs.declared.expanded.Expanded.{Expanded}
 use Rattle.form_shapes.specs.declared.expanded.Expanded.TheVariants.{Form, Refused}
 use Rattle.form_shapes.specs.declared.levels.Level.{Level}

@@ -13,9 +13,9 @@ use Rattle.lisp_program.specs.declared.function.Service.TheVariants as service
 use Rattle.lisp_data.specs.Data.{Data, NoData, Atom, Listed, behind, count_of}
 use Rattle.lisp_data.specs.declared.datum.Leaf.{Leaf}
 use Rattle.lisp_data.specs.declared.datum.Leaf.TheVariants.{Int, Symbol, Text, Time}
-use Rattle.lisp_operators.specs.declared.operator.Operator.{Operator}
-use Rattle.lisp_operators.specs.declared.operator.Operator.TheVariants as op
-use Rattle.lisp_operators.specs.Controls.{has_tilde, taken_by, text_of}
+use Rattle.form_shapes.specs.declared.operator.Operator.{Operator}
+use Rattle.form_shapes.specs.declared.operator.Operator.TheVariants as op
+use Rattle.form_shapes.specs.Controls.{has_tilde, taken_by, text_of}
 use Rattle.form_shapes.specs.declared.expanded.Expanded.{Expanded}
 use Rattle.form_shapes.specs.declared.expanded.Expanded.TheVariants.{Form, Refused}
 use Rattle.form_shapes.specs.declared.keywords.Keys.{Keys}

@@ -3,6 +3,7 @@ ghost use Rattle.form_shapes.specs.Contexts.{scope_in};
 ghost use Rattle.form_shapes.specs.Shapes;
 
 use crate::bindings::MOST;
+use crate::control::{has_tilde, taken_by, text_of};
 use crate::expanded::Expanded;
 use crate::keywords::{Roles, first_key, keys_in, positional, roles_of, second_key, with_keys};
 use crate::refusal::TOO_MANY;
@@ -13,7 +14,6 @@ use lisp_base::id::{Place, SymbolId};
 use lisp_base::value::Node;
 use lisp_data::datum::Leaf;
 use lisp_data::items::{First, Items};
-use lisp_operators::control::{has_tilde, taken_by, text_of};
 use lisp_program::form::CoreKind;
 use lisp_program::function::{Primitive, Printing, Service};
 use symbol_table::symbols::Symbols;

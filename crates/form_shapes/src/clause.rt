@@ -2,11 +2,11 @@ ghost use Rattle.std.specs.Prelude.{◌≡◌};
 ghost use Rattle.form_shapes.specs.Clauses;
 ghost use Rattle.form_shapes.specs.One.{holds_clause, holds_test, holds_variable};
 
+use crate::class_names::class_named;
 use crate::scope::{as_variable, first_symbol, name_of};
 use lisp_base::condition::Class;
 use lisp_base::id::SymbolId;
 use lisp_data::items::{First, Items};
-use lisp_operators::class_names::class_named;
 use symbol_table::symbols::Symbols;
 
 /// The most clauses of one `handler-case`.

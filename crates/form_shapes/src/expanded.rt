@@ -2,7 +2,7 @@ use lisp_base::id::{Place, SymbolId};
 use lisp_program::form::CoreKind;
 
 /// What a datum is expanded to by itself.
-#[derive(Clone, Copy, Debug, PartialEq, Eq)]
+#[derive(Clone, Copy)]
 pub enum Expanded {
     /// A form of this kind.
     Form(CoreKind),
@@ -17,7 +17,7 @@ pub enum Expanded {
 }
 
 /// One form of an expansion in preorder: what it is, its place, and how many forms stand directly under it.
-#[derive(Clone, Copy, Debug, PartialEq, Eq)]
+#[derive(Clone, Copy)]
 pub struct ExpandedNode {
     pub kind: Expanded,
     pub place: Place,

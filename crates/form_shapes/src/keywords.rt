@@ -7,14 +7,14 @@ use lisp_program::function::Service;
 use symbol_table::symbols::Symbols;
 
 /// Which of two keywords are written.
-#[derive(Clone, Copy, Debug, PartialEq, Eq)]
+#[derive(Clone, Copy)]
 pub struct Keys {
     pub first: bool,
     pub second: bool,
 }
 
 /// What an argument is for.
-#[derive(Clone, Copy, Debug, PartialEq, Eq)]
+#[derive(Clone, Copy)]
 pub enum Role {
     /// A form that gives a value.
     Value,
@@ -25,7 +25,7 @@ pub enum Role {
 }
 
 /// What the arguments of a form are for.
-#[derive(Clone, Copy, Debug, PartialEq, Eq)]
+#[derive(Clone, Copy)]
 pub enum Roles {
     /// All behind the first so many are values.
     From(u32),

@@ -13,6 +13,7 @@ use crate::control_shapes::{
 use crate::expanded::Expanded;
 use crate::keywords::Roles;
 use crate::levels::Level;
+use crate::operator::Operator;
 use crate::refusal::UNKNOWN_OPERATOR;
 use crate::scope::{Context, first_symbol};
 use crate::shape::{Shape, at_least, bad, faultless, fixed, where_holds};
@@ -20,7 +21,6 @@ use crate::value_shapes::{change_shape, if_shape, quoted, setq_shape, swap_shape
 use lisp_base::id::Place;
 use lisp_base::memory::Memory;
 use lisp_data::items::Items;
-use lisp_operators::operator::Operator;
 use lisp_program::form::CoreKind;
 use lisp_program::function::Primitive;
 use std::alloc::Global;

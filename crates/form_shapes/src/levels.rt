@@ -7,7 +7,7 @@ use std::alloc::Global;
 use std::marker::Model;
 
 /// What is open round a form in its call, has a number there, and can be named.
-#[derive(Clone, Copy, Debug, PartialEq, Eq)]
+#[derive(Clone, Copy)]
 pub enum Level {
     /// A lexical variable.
     Variable(SymbolId),
@@ -18,14 +18,14 @@ pub enum Level {
 }
 
 /// The same with its number.
-#[derive(Clone, Copy, Debug, PartialEq, Eq)]
+#[derive(Clone, Copy)]
 pub struct Numbered {
     pub level: Level,
     pub number: u32,
 }
 
 /// What is open and can be named. Contracts see a list, the innermost first.
-#[derive(Debug, Drop)]
+#[derive(Drop)]
 pub struct Levels {
     items: Vec<Numbered>,
 }

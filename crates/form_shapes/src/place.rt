@@ -5,18 +5,18 @@ ghost use Rattle.form_shapes.specs.Places;
 use crate::bindings::{list_fault, parameters_of};
 use crate::expanded::Expanded;
 use crate::led::shape_led;
+use crate::operator::Operator;
 use crate::refusal::{BAD_FORM, DEFINED_TWICE, FUNCTION_PLACE, UNKNOWN_OPERATOR};
 use crate::scope::{Context, first_symbol, has, is_named, leaf_symbol, operator_at};
 use crate::shape::Shape;
 use lisp_base::id::{FunctionName, Place, SymbolId};
 use lisp_base::memory::Memory;
 use lisp_data::items::{First, Items};
-use lisp_operators::operator::Operator;
 use lisp_program::form::CoreKind;
 use std::alloc::Global;
 
 /// What a list is in a function's place.
-#[derive(Clone, Copy, Debug, PartialEq, Eq)]
+#[derive(Clone, Copy)]
 pub enum Placed {
     /// A `lambda`.
     Made,

@@ -5,22 +5,22 @@ ghost use Rattle.form_shapes.specs.Scopes;
 ghost use Rattle.form_shapes.specs.Scopes.{Scope};
 
 use crate::expanded::Expanded;
+use crate::function_names::operator_named;
 use crate::levels::{Level, Levels, next};
+use crate::operator::{Operator, is_constant, is_current_thread};
 use crate::refusal::{BAD_FORM, UNKNOWN_VARIABLE};
 use lisp_base::id::{Place, SymbolId};
 use lisp_base::memory::Memory;
 use lisp_base::value::{Node, Value};
 use lisp_data::datum::Leaf;
 use lisp_data::items::{First, Items};
-use lisp_operators::function_names::operator_named;
-use lisp_operators::operator::{Operator, is_constant, is_current_thread};
 use lisp_program::form::CoreKind;
 use std::alloc::Global;
 use symbol_table::symbols::Symbols;
 use symbol_table::texts::Texts;
 
 /// The variable that a symbol is.
-#[derive(Clone, Copy, Debug, PartialEq, Eq)]
+#[derive(Clone, Copy)]
 pub enum Target {
     /// The lexical variable with this number.
     Local(u32),
@@ -72,7 +72,7 @@ pub fn context_at<'a, 'l>(base: &Base<'a>, levels: &'l Levels, depth: u32) -> Co
 }
 
 /// What is open, and how much there is of it in all.
-#[derive(Debug, Drop)]
+#[derive(Drop)]
 pub struct Opened {
     pub levels: Levels,
     pub depth: u32,

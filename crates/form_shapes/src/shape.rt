@@ -11,7 +11,7 @@ use lisp_program::form::CoreKind;
 use lisp_program::function::Primitive;
 
 /// What a list is.
-#[derive(Clone, Copy, Debug, PartialEq, Eq)]
+#[derive(Clone, Copy)]
 pub enum Shape {
     /// It is refused with this number at this place.
     Wrong(u32, Place),

@@ -3,7 +3,6 @@ use lisp_base::id::{Actor, ThreadId};
 use lisp_base::value::{Node, Value};
 use lisp_journal::journal::write_journal;
 use lisp_journal::names::Names;
-use std::test::Fail;
 use symbol_table::error::InternError;
 use symbol_table::symbols::Symbols;
 use symbol_table::texts::Texts;
@@ -12,9 +11,9 @@ use world_semantics::op::{Op, Reply};
 use world_semantics::phase::Ending;
 
 #[test]
-fn strings_stand_on_one_line(rt: HostRuntime) -> Result<(), Fail> {
-    let symbols = Symbols::new(rt.alloc()).map_err(InternError::from)?;
-    let mut texts = Texts::new(rt.alloc()).map_err(InternError::from)?;
+fn strings_stand_on_one_line(rt: HostRuntime) -> Result<(), InternError> {
+    let symbols = Symbols::new(rt.alloc())?;
+    let mut texts = Texts::new(rt.alloc())?;
     let string = Value::of(Node::Text(texts.intern("two\nlines \"ä\\n\"")?));
     let entry = Entry {
         ticket: 1,
@@ -27,7 +26,7 @@ fn strings_stand_on_one_line(rt: HostRuntime) -> Result<(), Fail> {
         symbols: &symbols,
         texts: &texts,
     };
-    let journal = write_journal(rt.alloc(), &names, &[entry]).map_err(InternError::from)?;
+    let journal = write_journal(rt.alloc(), &names, &[entry])?;
     let lines = r#"sbcl-journal 1
 1 t0 1 finish returned "two\nlines \"ä\\n\"" -> ok
 "#;

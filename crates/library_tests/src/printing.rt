@@ -5,7 +5,6 @@ use lisp_base::value::{Node, Value};
 use lisp_reader::print::{print_string, print_value};
 use std::alloc::Global;
 use std::process::Abort;
-use std::test::Fail;
 use symbol_table::error::InternError;
 use symbol_table::symbols::Symbols;
 use symbol_table::texts::Texts;
@@ -17,8 +16,8 @@ fn check_way(
     (value, escape): (&Value, bool),
     wanted: &str,
     (symbols, texts): (&Symbols, &Texts),
-) -> Result<(), Fail> {
-    let printed = print_value(alloc, value, escape, symbols, texts).map_err(InternError::from)?;
+) -> Result<(), InternError> {
+    let printed = print_value(alloc, value, escape, symbols, texts)?;
     assert!(rt; printed.as_str() == wanted);
     Ok(())
 }
@@ -30,10 +29,8 @@ fn check_both(
     node: Node,
     (escaped, plain): (&str, &str),
     tables: (&Symbols, &Texts),
-) -> Result<(), Fail> {
-    let Some(value) = Value::of(node) else {
-        return Err("the node is not in range".into());
-    };
+) -> Result<(), InternError> {
+    let value = Value::of(node).expect(rt, "the node is in range");
     check_way(rt, alloc, (&value, true), escaped, tables)?;
     check_way(rt, alloc, (&value, false), plain, tables)
 }
@@ -45,17 +42,17 @@ fn check(
     node: Node,
     escaped: &str,
     plain: &str,
-) -> Result<(), Fail> {
-    let symbols = Symbols::new(alloc).map_err(InternError::from)?;
-    let mut texts = Texts::new(alloc).map_err(InternError::from)?;
+) -> Result<(), InternError> {
+    let symbols = Symbols::new(alloc)?;
+    let mut texts = Texts::new(alloc)?;
     texts.intern("the only one")?;
     check_both(rt, alloc, node, (escaped, plain), (&symbols, &texts))
 }
 
 /// Prints a symbol, which both ways is its name.
-fn check_symbol(rt: &impl Abort, alloc: Global, name: &str) -> Result<(), Fail> {
-    let mut symbols = Symbols::new(alloc).map_err(InternError::from)?;
-    let texts = Texts::new(alloc).map_err(InternError::from)?;
+fn check_symbol(rt: &impl Abort, alloc: Global, name: &str) -> Result<(), InternError> {
+    let mut symbols = Symbols::new(alloc)?;
+    let texts = Texts::new(alloc)?;
     let node = Node::Symbol(symbols.intern(name)?);
     check_both(rt, alloc, node, (name, name), (&symbols, &texts))
 }
@@ -67,9 +64,9 @@ fn check_text(
     class: Option<Class>,
     characters: &str,
     escaped: &str,
-) -> Result<(), Fail> {
-    let symbols = Symbols::new(alloc).map_err(InternError::from)?;
-    let mut texts = Texts::new(alloc).map_err(InternError::from)?;
+) -> Result<(), InternError> {
+    let symbols = Symbols::new(alloc)?;
+    let mut texts = Texts::new(alloc)?;
     let node = node_of(class, texts.intern(characters)?);
     check_both(rt, alloc, node, (escaped, characters), (&symbols, &texts))
 }
@@ -91,8 +88,8 @@ fn check_string(
     alloc: Global,
     characters: &str,
     escaped: &str,
-) -> Result<(), Fail> {
-    let string = print_string(alloc, characters).map_err(InternError::from)?;
+) -> Result<(), InternError> {
+    let string = print_string(alloc, characters)?;
     assert!(rt; string.as_str() == escaped);
     check_text(rt, alloc, None, characters, escaped)
 }
@@ -104,15 +101,21 @@ fn check_condition(
     class: Class,
     text: &str,
     escaped: &str,
-) -> Result<(), Fail> {
+) -> Result<(), InternError> {
     check_text(rt, alloc, Some(class), text, escaped)
 }
 
 #[test]
-fn integers_and_times(rt: HostRuntime) -> Result<(), Fail> {
+fn integers_and_times(rt: HostRuntime) -> Result<(), InternError> {
     let integers = "0 7 -1 -1000000 4611686018427387903 -4611686018427387904";
     for text in integers.split(' ') {
-        check(&rt, rt.alloc(), Node::Int(text.parse()?), text, text)?;
+        check(
+            &rt,
+            rt.alloc(),
+            Node::Int(text.parse().expect(&rt, "an integer")),
+            text,
+            text,
+        )?;
     }
     let times = "0 0.000000
 1 0.000001
@@ -129,7 +132,7 @@ fn integers_and_times(rt: HostRuntime) -> Result<(), Fail> {
         check(
             &rt,
             rt.alloc(),
-            Node::Time(Micros(micros.parse()?)),
+            Node::Time(Micros(micros.parse().expect(&rt, "a time"))),
             text,
             text,
         )?;
@@ -138,7 +141,7 @@ fn integers_and_times(rt: HostRuntime) -> Result<(), Fail> {
 }
 
 #[test]
-fn symbols_and_keywords(rt: HostRuntime) -> Result<(), Fail> {
+fn symbols_and_keywords(rt: HostRuntime) -> Result<(), InternError> {
     for name in "NIL T :WARN :FORCE CAR *X* 1+ λ".split(' ') {
         check_symbol(&rt, rt.alloc(), name)?;
     }
@@ -146,7 +149,7 @@ fn symbols_and_keywords(rt: HostRuntime) -> Result<(), Fail> {
 }
 
 #[test]
-fn strings(rt: HostRuntime) -> Result<(), Fail> {
+fn strings(rt: HostRuntime) -> Result<(), InternError> {
     let alloc = rt.alloc();
     check_string(&rt, alloc, "", r#""""#)?;
     check_string(&rt, alloc, " a  b ", r#"" a  b ""#)?;
@@ -160,7 +163,7 @@ fn strings(rt: HostRuntime) -> Result<(), Fail> {
 }
 
 #[test]
-fn objects(rt: HostRuntime) -> Result<(), Fail> {
+fn objects(rt: HostRuntime) -> Result<(), InternError> {
     let (main, timer) = (ThreadId::main(), TimerId::new(4095, ThreadId::main()));
     check_object(&rt, rt.alloc(), Some(Node::Thread(main)), "#<THREAD 0>")?;
     check_object(
@@ -196,15 +199,13 @@ fn check_object(
     alloc: Global,
     node: Option<Node>,
     text: &str,
-) -> Result<(), Fail> {
-    let Some(node) = node else {
-        return Err("no object has the number".into());
-    };
+) -> Result<(), InternError> {
+    let node = node.expect(rt, "an object has the number");
     check(rt, alloc, node, text, text)
 }
 
 #[test]
-fn conditions_without_a_text(rt: HostRuntime) -> Result<(), Fail> {
+fn conditions_without_a_text(rt: HostRuntime) -> Result<(), InternError> {
     let classes = [
         Class::Condition,
         Class::SeriousCondition,
@@ -225,7 +226,7 @@ fn conditions_without_a_text(rt: HostRuntime) -> Result<(), Fail> {
 }
 
 #[test]
-fn conditions_with_a_text(rt: HostRuntime) -> Result<(), Fail> {
+fn conditions_with_a_text(rt: HostRuntime) -> Result<(), InternError> {
     let alloc = rt.alloc();
     check_condition(
         &rt,
@@ -246,7 +247,7 @@ fn conditions_with_a_text(rt: HostRuntime) -> Result<(), Fail> {
 }
 
 #[test]
-fn what_is_not_in_the_tables(rt: HostRuntime) -> Result<(), Fail> {
+fn what_is_not_in_the_tables(rt: HostRuntime) -> Result<(), InternError> {
     let condition = Condition {
         class: Class::NotOwner,
         text: Some(StringId(1)),

@@ -1,9 +1,9 @@
-use form_steps::flatten::main_steps;
-use form_steps::steps::Step;
 use lisp_base::id::{Place, SymbolId};
 use lisp_base::value::{Node, Value};
 use plain_program::act::{Act, Opening, Question};
+use plain_program::flatten::main_steps;
 use plain_program::form::{PlainKind, PlainNode};
+use plain_program::steps::Step;
 use std::test::Fail;
 
 fn int(number: i64) -> Result<Value, &'static str> {

@@ -3,7 +3,7 @@ use Rattle.std.proofs.Common.{◌≡◌, ◌≢◌, ℕ, suc, ◌+◌, ◌<◌, 
 use Rattle.std.proofs.lemmas.Bool.Decides.{nat_tests}
 use Rattle.std.proofs.Math.ListN.{drop_of_length-le}
 use Rattle.lisp_base.specs.Forest.{NoTrees, Tree}
-use Rattle.lisp_operators.proofs.Chosen.{other_of}
+use Rattle.form_shapes.proofs.Chosen.{other_of}
 use Rattle.form_shapes.specs.declared.expanded.ExpandedNode.{ExpandedNode}
 use Rattle.lisp_forms.specs.declared.expander.Refusal.{Refusal}
 use Rattle.lisp_forms.specs.Flat.{flat}

@@ -9,9 +9,9 @@ use Rattle.lisp_program.specs.Program.{Function, Program}
 use Rattle.lisp_program.specs.declared.form.CoreKind.{CoreKind}
 use Rattle.lisp_program.specs.declared.form.CoreKind.TheVariants as k
 use Rattle.lisp_data.specs.Data.{Data, NoData, Atom, Listed, behind, count_of}
-use Rattle.lisp_operators.specs.declared.operator.Operator.{Operator}
-use Rattle.lisp_operators.specs.declared.operator.Operator.TheVariants as op
-use Rattle.lisp_operators.specs.Operators.{operator_named}
+use Rattle.form_shapes.specs.declared.operator.Operator.{Operator}
+use Rattle.form_shapes.specs.declared.operator.Operator.TheVariants as op
+use Rattle.form_shapes.specs.Operators.{operator_named}
 use Rattle.form_shapes.specs.declared.expanded.Expanded.{Expanded}
 use Rattle.form_shapes.specs.declared.expanded.Expanded.TheVariants.{Form, Lambda, Defun, Refused, RefusedFunction}
 use Rattle.form_shapes.specs.declared.keywords.Roles.TheVariants.{Just}

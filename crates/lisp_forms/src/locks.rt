@@ -26,7 +26,7 @@ use lisp_program::function::Service;
 use std::alloc::Global;
 
 /// The numbers of the hidden variables of a lock, and of what its region remembers.
-#[derive(Clone, Copy, Debug, PartialEq, Eq)]
+#[derive(Clone, Copy)]
 struct Lock {
     mutex: u32,
     grabbed: u32,

@@ -2,14 +2,14 @@ ghost use Rattle.std.specs.Prelude.{◌≡◌, [], Some, IfOk, OnOk};
 ghost use Rattle.lisp_forms.specs.Program;
 
 use form_shapes::bindings::{is_text_first, list_fault, parameters_of};
+use form_shapes::function_names::operator_named;
+use form_shapes::operator::Operator;
 use form_shapes::refusal::BAD_FORM;
 use form_shapes::scope::{as_variable, first_symbol, has, name_of};
 use lisp_base::id::SymbolId;
 use lisp_base::memory::Memory;
 use lisp_data::datum::Datum;
 use lisp_data::items::{First, Items};
-use lisp_operators::function_names::operator_named;
-use lisp_operators::operator::Operator;
 use std::alloc::Global;
 use symbol_table::symbols::Symbols;
 

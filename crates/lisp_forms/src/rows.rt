@@ -1,9 +1,8 @@
 ghost use Rattle.std.specs.Prelude.{◌≡◌, ◌++◌, ℕ, OnOk};
 ghost use Rattle.lisp_base.specs.Forest.{count_of, joined};
 ghost use Rattle.form_shapes.specs.Contexts.{scope_at};
-ghost use Rattle.form_shapes.specs.Scopes.{target_in};
 ghost use Rattle.form_shapes.specs.One.{place_by as place_of, symbol_by as symbol_of};
-ghost use Rattle.form_shapes.specs.Scopes.{Scope, deeper};
+ghost use Rattle.form_shapes.specs.Scopes.{Scope, deeper, target_in};
 ghost use Rattle.lisp_forms.specs.Expansion.{body_in, by_roles, conds_in, forms_in, ors_in, pairs_in};
 ghost use Rattle.lisp_forms.specs.Flat.{flat, flat_one};
 ghost use Rattle.lisp_forms.specs.Written.{clause_nodes, either_nodes};

@@ -14,8 +14,10 @@ use crate::program::{add_name, built_in, definition_in, definition_of, function_
 use crate::special::{push_specials, special_parts};
 use form_shapes::bindings::{function_body_of, list_fault, parameters_in, parameters_of};
 use form_shapes::expanded::{Expanded, ExpandedNode};
+use form_shapes::function_names::operator_named;
 use form_shapes::keywords::Roles;
 use form_shapes::levels::{Level, Levels};
+use form_shapes::operator::Operator;
 use form_shapes::refusal::{DEFINED_TWICE, TOO_MANY, UNKNOWN_OPERATOR};
 use form_shapes::scope::{Base, first_symbol, has, name_of};
 use form_shapes::shape::Shape;
@@ -25,8 +27,6 @@ use lisp_base::memory::Memory;
 use lisp_base::value::Value;
 use lisp_data::datum::Datum;
 use lisp_data::items::{First, Items};
-use lisp_operators::function_names::operator_named;
-use lisp_operators::operator::Operator;
 use lisp_program::form::CoreKind;
 use std::alloc::Global;
 use symbol_table::symbols::Symbols;
@@ -35,7 +35,7 @@ use symbol_table::symbols::Symbols;
 const MOST_SPECIALS: usize = 256;
 
 /// What is defined before a form.
-#[derive(Debug, Drop)]
+#[derive(Drop)]
 pub struct Known {
     pub variables: Vec<SymbolId>,
     pub functions: Vec<SymbolId>,

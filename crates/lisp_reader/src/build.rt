@@ -9,7 +9,7 @@ use lisp_data::datum::{DatumKind, DatumNode};
 use std::alloc::Global;
 
 /// What the marks from some mark on have built.
-#[derive(Debug, Drop)]
+#[derive(Drop)]
 pub struct Builder {
     /// How many items the innermost list has so far, whose beginning is still to come, or else the top level.
     pub items: u32,

@@ -26,7 +26,7 @@ use symbol_table::symbols::Symbols;
 use symbol_table::texts::Texts;
 
 /// What a part of a text is, where symbols and literals have numbers.
-#[derive(Clone, Copy, Debug, PartialEq, Eq)]
+#[derive(Clone, Copy)]
 pub enum MarkKind {
     /// A list opens.
     Open,
@@ -39,7 +39,7 @@ pub enum MarkKind {
 }
 
 /// A part of a text, with the place of its first byte.
-#[derive(Clone, Copy, Debug, PartialEq, Eq)]
+#[derive(Clone, Copy)]
 pub struct Mark {
     pub kind: MarkKind,
     pub place: Place,
@@ -132,7 +132,7 @@ fn letters_at(text: &[u8], at: usize, count: usize) -> &[u8]
 }
 
 /// What has been gathered of a text: what is open, and the marks of its parts.
-#[derive(Debug, Drop)]
+#[derive(Drop)]
 struct Gatherer {
     opens: Opens,
     marks: Vec<Mark>,

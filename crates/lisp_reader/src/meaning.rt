@@ -7,7 +7,7 @@ ghost use Rattle.std.specs.Str.Parse.{digits_value};
 ghost use Rattle.lisp_reader.specs.Meanings;
 
 /// What a token means.
-#[derive(Clone, Copy, Debug, PartialEq, Eq)]
+#[derive(Clone, Copy)]
 pub enum Meaning {
     /// An integer, from -2^62 to 2^62 - 1.
     Integer(i64),

@@ -12,7 +12,7 @@ use std::marker::Model;
 const MOST_OPEN: usize = 256;
 
 /// What is open, with the place where it began.
-#[derive(Clone, Copy, Debug, PartialEq, Eq)]
+#[derive(Clone, Copy)]
 pub enum Opening {
     /// A list.
     List(Place),
@@ -21,7 +21,7 @@ pub enum Opening {
 }
 
 /// What is open, which contracts see as a list, the innermost first.
-#[derive(Debug, Drop)]
+#[derive(Drop)]
 pub struct Opens {
     items: Vec<Opening>,
 }

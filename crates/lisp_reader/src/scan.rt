@@ -8,7 +8,7 @@ use lisp_base::memory::Memory;
 use std::alloc::Global;
 
 /// What kind of part begins at a place of a text.
-#[derive(Debug, Drop)]
+#[derive(Drop)]
 pub enum PartKind {
     /// `(`
     Open,
@@ -25,7 +25,7 @@ pub enum PartKind {
 }
 
 /// What was scanned at a place of a text, and where the text goes on.
-#[derive(Debug, Drop)]
+#[derive(Drop)]
 pub enum Scanned {
     /// A separator or a comment.
     Blank(usize),

@@ -23,7 +23,7 @@ use symbol_table::texts::Texts;
 const STEPS: u32 = 100_000;
 
 /// The text that is written for a program.
-#[derive(Debug, Drop)]
+#[derive(Drop)]
 pub(crate) enum Answer {
     /// Journal and report of a run, with its status.
     OfRun(String, u8),

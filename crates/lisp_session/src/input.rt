@@ -14,7 +14,7 @@ pub(crate) const LONGEST: usize = 1_048_576;
 const BLOCK: usize = 65_536;
 
 /// Why a text was not read.
-#[derive(Clone, Copy, Debug, PartialEq, Eq)]
+#[derive(Clone, Copy)]
 pub(crate) enum ReadFailure {
     Fault,
     Memory,

@@ -6,7 +6,7 @@ use lisp_edge::answers::WriteAnswer;
 use lisp_edge::sink::Sink;
 
 /// A write failed.
-#[derive(Clone, Copy, Debug, PartialEq, Eq)]
+#[derive(Clone, Copy)]
 pub(crate) struct WriteFailed;
 
 /// Writes a whole text, piece by piece.

@@ -23,7 +23,7 @@ use symbol_table::texts::Texts;
 const NOT_BUILT: u32 = 10;
 
 /// A program that was read, with the forms of main that are run, and with its symbols and string literals.
-#[derive(Debug, Drop)]
+#[derive(Drop)]
 pub(crate) struct Reading {
     pub program: Program,
     pub forms: Vec<PlainNode>,
@@ -32,7 +32,7 @@ pub(crate) struct Reading {
 }
 
 /// Why there is no program.
-#[derive(Clone, Copy, Debug, PartialEq, Eq)]
+#[derive(Clone, Copy)]
 pub(crate) enum Refusal {
     /// The number of the refusal, and where it comes.
     Refused { number: u32, place: Place },

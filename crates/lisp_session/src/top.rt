@@ -17,7 +17,7 @@ use lisp_journal::refusal::refused_words;
 use std::alloc::Global;
 
 /// How a top call ends.
-#[derive(Clone, Copy, Debug, PartialEq, Eq)]
+#[derive(Clone, Copy)]
 pub(crate) enum Outcome {
     /// The run ended with this status, and all was written.
     Ran(u8),

@@ -1,2 +1,5 @@
 pub mod Flatly
 pub mod Tables
+pub mod Joined
+pub mod Closed
+pub mod Flattened

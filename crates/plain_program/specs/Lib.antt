@@ -4,5 +4,7 @@ pub mod Plain
 pub mod Points
 pub mod Program
 pub mod Table
+pub mod Steps
+pub mod Flatten
 pub use Rattle.lisp_base.specs.Forest
 pub use Rattle.lisp_base.specs.Value

@@ -48,9 +48,21 @@ pub fn check(rt: &impl Abort, alloc: Global, table: &str, told: Told) -> Result<
 
 /// Reads each text of a table over what the texts before it in the table left.
 pub fn check_kept(rt: &impl Abort, alloc: Global, table: &str, told: Told) -> Result<(), Fail> {
+    let cases = cases_of(alloc, table)?;
     let mut tables = Tables::new(alloc)?;
-    for case in cases_of(alloc, table)?.as_slice() {
-        case.check(rt, alloc, &mut tables, told)?;
+    check_over(rt, alloc, cases.as_slice(), &mut tables, told)
+}
+
+/// Reads the text of each case over the same tables.
+fn check_over(
+    rt: &impl Abort,
+    alloc: Global,
+    cases: &[Case],
+    tables: &mut Tables,
+    told: Told,
+) -> Result<(), Fail> {
+    for case in cases {
+        case.check(rt, alloc, tables, told)?;
     }
     Ok(())
 }

@@ -1,13 +1,13 @@
 //! What texts read as over tables of names and string literals, as text, for the tests of the reader.
 use crate::form_text::{expansion, verdict};
 use lisp_base::id::{Micros, Place, StringId, SymbolId};
+use lisp_base::memory::Memory;
 use lisp_data::datum::{Datum, DatumKind, DatumNode};
 use lisp_reader::reader::read_program;
 use lisp_reader::refusal::ReadRefusal;
 use std::alloc::{AllocError, Global};
 use std::test::Fail;
 use symbol_table::NAMES;
-use symbol_table::error::InternError;
 use symbol_table::symbols::Symbols;
 use symbol_table::texts::Texts;
 
@@ -39,9 +39,9 @@ pub enum Told {
 
 impl Tables {
     /// Just the five first symbols.
-    pub fn new(alloc: Global) -> Result<Self, Fail> {
-        let symbols = Symbols::new(alloc).map_err(InternError::from)?;
-        let texts = Texts::new(alloc).map_err(InternError::from)?;
+    pub fn new(alloc: Global) -> Result<Self, Memory> {
+        let symbols = Symbols::new(alloc)?;
+        let texts = Texts::new(alloc)?;
         Ok(Tables { symbols, texts })
     }
 

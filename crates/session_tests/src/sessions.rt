@@ -245,14 +245,18 @@ fn failing_ends(rt: HostRuntime) -> Result<(), Fail> {
 /// So many `(print `, a 1, and as many `)`.
 fn nested(alloc: Global, depth: usize) -> Result<Vec<u8>, Memory> {
     let mut text = Vec::new(alloc);
-    for _ in 0..depth {
-        text.extend_from_slice(b"(print ")?;
-    }
-    text.push(b'1')?;
-    for _ in 0..depth {
-        text.push(b')')?;
-    }
+    push_repeated(b"(print ", depth, &mut text)?;
+    push_repeated(b"1", 1, &mut text)?;
+    push_repeated(b")", depth, &mut text)?;
     Ok(text)
+}
+
+/// Puts bytes so many times behind others.
+fn push_repeated(bytes: &[u8], count: usize, text: &mut Vec<u8>) -> Result<(), Memory> {
+    for _ in 0..count {
+        text.extend_from_slice(bytes)?;
+    }
+    Ok(())
 }
 
 /// Refused programs, each with its line.
@@ -286,23 +290,19 @@ fn programs_are_refused(rt: HostRuntime) -> Result<(), Fail> {
     Ok(())
 }
 
-/// So many different names of three letters, or string literals of these, each four or six bytes long.
-fn names(alloc: Global, count: usize, are_texts: bool) -> Result<Vec<u8>, Memory> {
+/// So many different names of three letters between these bytes, blanks or quotes, and a blank behind each: six bytes.
+fn names(alloc: Global, count: usize, quote: u8) -> Result<Vec<u8>, Memory> {
     let mut text = Vec::new(alloc);
     for number in 0..count {
         let name = [
+            quote,
             b'a' + (number / 676 % 26) as u8,
             b'a' + (number / 26 % 26) as u8,
             b'a' + (number % 26) as u8,
+            quote,
+            b' ',
         ];
-        if are_texts {
-            text.push(b'"')?;
-        }
         text.extend_from_slice(&name)?;
-        if are_texts {
-            text.push(b'"')?;
-        }
-        text.push(b' ')?;
     }
     Ok(text)
 }
@@ -314,11 +314,11 @@ fn long_texts_are_refused(rt: HostRuntime) -> Result<(), Fail> {
         (Vec::from_slice(alloc, b"\xff")?, "refused 1 NotUtf8 at 0\n"),
         (made(nested(alloc, 257))?, "refused 6 TooDeep at 1792\n"),
         (
-            made(names(alloc, 4_092, false))?,
-            "refused 8 TooManySymbols at 16364\n",
+            made(names(alloc, 4_092, b' '))?,
+            "refused 8 TooManySymbols at 24547\n",
         ),
         (
-            made(names(alloc, 4_097, true))?,
+            made(names(alloc, 4_097, b'"'))?,
             "refused 9 TooManyTexts at 24576\n",
         ),
         (made(sum(alloc, 65))?, "refused 17 TooMany at 0\n"),
@@ -358,9 +358,7 @@ fn limits_of_texts(rt: HostRuntime) -> Result<(), Fail> {
 /// A form and so many numbers after it.
 fn numbers(alloc: Global, first: &[u8], count: usize) -> Result<Vec<u8>, Memory> {
     let mut text = Vec::from_slice(alloc, first)?;
-    for _ in 0..count {
-        text.extend_from_slice(b" 1")?;
-    }
+    push_repeated(b" 1", count, &mut text)?;
     Ok(text)
 }
 

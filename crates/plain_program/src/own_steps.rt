@@ -1,0 +1,68 @@
+//! A form's own steps, before those of the forms under it and behind them.
+ghost use Rattle.std.specs.Prelude.{◌≡◌, ◌++◌, ◌∷◌, [], ◌+◌, ◌<◌, ◌≤◌, take, length, OnOk};
+ghost use Rattle.plain_program.specs.Flatten.{opening_steps, closing_steps};
+
+use crate::act::{Act, Opening, Question};
+use crate::form::{PlainKind, PlainNode};
+use crate::steps::Step;
+use lisp_base::id::SymbolId;
+use lisp_base::memory::Memory;
+
+/// Begins the form at a node.
+pub fn push_opening(node: &PlainNode, steps: &mut Vec<Step>) -> Result<(), Memory>
+    ensures { OnOk result (steps.new.items ≡ steps.old.items ++ opening_steps node.now.kind node.now.place) }
+{
+    match node.kind {
+        PlainKind::Constant(_) | PlainKind::Plus | PlainKind::Print | PlainKind::Progn => Ok(()),
+        PlainKind::Special(_) | PlainKind::Setq(_) | PlainKind::Let => Ok(()),
+        PlainKind::Defvar(symbol) => {
+            steps.extend_from_slice(&[Step::Test(symbol, 0)])?;
+            Ok(())
+        }
+        PlainKind::Bind(symbol, above) => {
+            steps.extend_from_slice(&[Step::Enter(Opening::Bind(symbol, above), node.place)])?;
+            Ok(())
+        }
+    }
+}
+
+/// Ends the form at a node, which begins at `start`, where the steps of the forms under it now stand.
+pub fn push_closing(node: &PlainNode, start: usize, steps: &mut Vec<Step>) -> Result<(), Memory>
+    requires { start + length (opening_steps node.now.kind node.now.place) ≤ length steps.old.items }
+    ensures { OnOk result (steps.new.items ≡ closing_steps node.now.kind start steps.old.items) }
+{
+    match node.kind {
+        PlainKind::Constant(value) => Ok(push_in_place(Step::Act(Act::Push(value)), start, steps)?),
+        PlainKind::Plus => Ok(steps.extend_from_slice(&[Step::Act(Act::Add)])?),
+        PlainKind::Print => Ok(steps.extend_from_slice(&[Step::Ask(Question::Print)])?),
+        PlainKind::Progn | PlainKind::Let => Ok(()),
+        PlainKind::Special(symbol) => {
+            Ok(push_in_place(Step::Ask(Question::Read(symbol)), start, steps)?)
+        }
+        PlainKind::Setq(symbol) => Ok(steps.extend_from_slice(&[Step::Ask(Question::Write(
+            symbol,
+        ))])?),
+        PlainKind::Defvar(symbol) => Ok(push_defined(symbol, start, steps)?),
+        PlainKind::Bind(_, _) => Ok(steps.extend_from_slice(&[Step::Leave])?),
+    }
+}
+
+/// Puts one step in place of all from `start` on.
+fn push_in_place(step: Step, start: usize, steps: &mut Vec<Step>) -> Result<(), Memory>
+    ensures { OnOk result (steps.new.items ≡ take start steps.old.items ++ step ∷ []) }
+{
+    steps.truncate(start);
+    steps.extend_from_slice(&[step])?;
+    Ok(())
+}
+
+/// Ends a `defvar` whose test stands at `start`: the test passes over the value and this.
+fn push_defined(symbol: SymbolId, start: usize, steps: &mut Vec<Step>) -> Result<(), Memory>
+    requires { start < length steps.old.items }
+    ensures { OnOk result (steps.new.items ≡ closing_steps (PlainKind.Defvar symbol) start steps.old.items) }
+{
+    let count = steps.as_slice().len() - start;
+    steps[start] = Step::Test(symbol, count);
+    steps.extend_from_slice(&[Step::Ask(Question::Define(symbol))])?;
+    Ok(())
+}
