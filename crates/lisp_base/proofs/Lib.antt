@@ -1,1 +1,2 @@
 mod Classes
+pub mod Writing

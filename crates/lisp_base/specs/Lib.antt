@@ -3,3 +3,4 @@ pub mod Forest
 pub mod Classes
 pub mod Timers
 pub mod Limits
+pub mod Writing

@@ -7,3 +7,4 @@ pub mod limits;
 pub mod memory;
 pub mod sequence;
 pub mod value;
+pub mod writer;

@@ -1,5 +1,7 @@
 -- Bindings in one another, one by one.
-use Rattle.std.proofs.Common.{◌≡◌, ℕ, suc, ◌+◌, ◌-◌, ◌<◌, List, [], ◌∷◌, ◌++◌, Bool, true, false, if◌then◌else◌, length, get_or, drop, refl, ap, sym, ◌∙◌, arith, append_assoc, add-one, drop-cons, length-drop}
+use Rattle.std.proofs.Common.{◌≡◌, ℕ, suc, ◌+◌, ◌-◌, ◌<◌, Option, List, [], ◌∷◌, Bool, true, false, if◌then◌else◌, length, get_or, drop, refl, ap, sym, ◌∙◌, arith, add-one, drop-cons, length-drop}
+use Rattle.lisp_base.specs.Writing.{Wrote}
+use Rattle.lisp_base.proofs.Writing.{Writes, writes_next}
 use Rattle.lisp_program.specs.declared.form.CoreKind.{CoreKind}
 use Rattle.lisp_program.specs.declared.form.CoreKind.TheVariants.{BindSpecial, BindLocal}
 use Rattle.form_shapes.specs.declared.expanded.Expanded.TheVariants.{Form}
@@ -48,20 +50,17 @@ binds-same s p forms (x ∷ (y ∷ ys)) =
     ∙ binds-same (opened_by s x) p forms (y ∷ ys))
 
 -- one more is written
-pub binds_next : (specials xs : List ℕ) (p forms n i x above parts behind : ℕ) (kind : CoreKind) (now new all : List ExpandedNode)
+pub binds_next : (specials xs : List ℕ) (p forms n i x above parts behind : ℕ) (kind : CoreKind) (old now new : Option (List ExpandedNode)) (all : List ExpandedNode)
     → i < length xs → x ≡ get_or xs i x → above ≡ length xs - 1 - i → kind ≡ kind_by specials n x above → parts ≡ forms_under above forms
-    → behind ≡ number_behind specials n x → new ≡ now ++ node (Form kind) p parts ∷ []
-    → now ++ binds_from specials p forms n (drop i xs) ≡ all → new ++ binds_from specials p forms behind (drop (i + 1) xs) ≡ all
-binds_next specials xs p forms n i x above parts behind kind now new all h is many same under next pushed so_far =
+    → behind ≡ number_behind specials n x → Wrote now new (node (Form kind) p parts ∷ [])
+    → Writes old now (binds_from specials p forms n (drop i xs)) all → Writes old new (binds_from specials p forms behind (drop (i + 1) xs)) all
+binds_next specials xs p forms n i x above parts behind kind old now new all h is many same under next pushed so_far =
     let rest : List ℕ = drop (i + 1) xs in
     let split : drop i xs ≡ x ∷ rest = drop-cons xs i x h ∙ ap (λ y. y ∷ drop (suc i) xs) (sym is) ∙ ap (λ k. x ∷ drop k xs) (sym (add-one i)) in
     let left : above ≡ length rest = omega (arith, many, h, length-drop (i + 1) xs) in
     let one : node (Form kind) p parts ≡ node (Form (kind_by specials n x (length rest))) p (forms_under (length rest) forms) =
     ap (λ g. node (Form g) p parts) same ∙ ap (λ m. node (Form (kind_by specials n x above)) p m) under
     ∙ ap (λ m. node (Form (kind_by specials n x m)) p (forms_under m forms)) left in
-    ap (λ ns. ns ++ binds_from specials p forms behind rest) pushed
-    ∙ append_assoc now (node (Form kind) p parts ∷ []) (binds_from specials p forms behind rest)
-    ∙ ap (λ m. now ++ (m ∷ binds_from specials p forms behind rest)) one
-    ∙ ap (λ k. now ++ (node (Form (kind_by specials n x (length rest))) p (forms_under (length rest) forms) ∷ binds_from specials p forms k rest)) next
-    ∙ sym (ap (λ ys. now ++ binds_from specials p forms n ys) split)
-    ∙ so_far
+    writes_next old now new (node (Form kind) p parts ∷ []) (binds_from specials p forms n (drop i xs)) (binds_from specials p forms behind rest) all so_far pushed
+    (ap (λ ys. binds_from specials p forms n ys) split ∙ ap (λ m. m ∷ binds_from specials p forms (number_behind specials n x) rest) (sym one)
+    ∙ ap (λ k. node (Form kind) p parts ∷ binds_from specials p forms k rest) (sym next))

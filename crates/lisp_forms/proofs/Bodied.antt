@@ -1,5 +1,5 @@
 -- Forms with bodies, written in several steps.
-use Rattle.std.proofs.Common.{◌≡◌, ℕ, suc, ◌+◌, List, [], ◌∷◌, ◌++◌, Bool, true, false, true≢false, if◌then◌else◌, Option, Some, None, unwrap_or, OnOk, Result, refl, ap, subst, sym, ◌∙◌, append-nil, add-one}
+use Rattle.std.proofs.Common.{◌≡◌, ℕ, suc, ◌+◌, List, [], ◌∷◌, ◌++◌, Bool, true, false, true≢false, if◌then◌else◌, Option, Some, None, unwrap_or, refl, ap, subst, sym, ◌∙◌, append-nil, add-one}
 use Rattle.lisp_base.specs.Forest.{count_of, joined}
 use Rattle.lisp_base.specs.declared.condition.Class.{Class}
 use Rattle.lisp_base.specs.declared.condition.Class.TheVariants.{Condition}
@@ -48,47 +48,47 @@ three-of kind p a b d x y z is is' is'' =
     ∙ ap (λ ns. node (Form kind) p 3 ∷ (flat_one a ++ (ns ++ z))) is' ∙ ap (λ ns. node (Form kind) p 3 ∷ (ns ++ (y ++ z))) is
 
 -- a form, and then those under it
-pub under_form : {A E : Type 0} (r : Result A E) (kind : CoreKind) (p n : ℕ) (fs : Expansion) (old mid new : List ExpandedNode)
-    → n ≡ count_of fs → mid ≡ old ++ node (Form kind) p n ∷ [] → OnOk r (new ≡ mid ++ flat fs) → OnOk r (new ≡ old ++ flat_one (form kind p fs))
-under_form r kind p n fs old mid new many begun h =
-    last_step r old mid new (node (Form kind) p n ∷ []) (flat fs) (flat_one (form kind p fs)) begun (ap (λ m. node (Form kind) p m ∷ flat fs) many) h
+pub under_form : (kind : CoreKind) (p n : ℕ) (fs : Expansion) (old mid new : List ExpandedNode)
+    → n ≡ count_of fs → mid ≡ old ++ node (Form kind) p n ∷ [] → new ≡ mid ++ flat fs → new ≡ old ++ flat_one (form kind p fs)
+under_form kind p n fs old mid new many begun h =
+    last_step old mid new (node (Form kind) p n ∷ []) (flat fs) (flat_one (form kind p fs)) begun (ap (λ m. node (Form kind) p m ∷ flat fs) many) h
 
 -- the forms of a body
 pub body-is : (s : Scope) (n : ℕ) (args left body : Data) → left ≡ behind n args → body ≡ body_of s.names left → forms_in s body ≡ body_in s n args
 body-is s n args left body from is = ap (forms_in s) (is ∙ ap (body_of s.names) from) ∙ sym (body-forms s n args)
 
 -- a form with a body
-pub body_form : {A E : Type 0} (r : Result A E) (s : Scope) (kind : CoreKind) (p n count : ℕ) (args left body : Data) (old mid new : List ExpandedNode)
+pub body_form : (s : Scope) (kind : CoreKind) (p n count : ℕ) (args left body : Data) (old mid new : List ExpandedNode)
     → left ≡ behind n args → body ≡ body_of s.names left → count ≡ data_in body → mid ≡ old ++ node (Form kind) p count ∷ []
-    → OnOk r (new ≡ mid ++ flat (forms_in s body)) → OnOk r (new ≡ old ++ flat_one (form kind p (body_in s n args)))
-body_form r s kind p n count args left body old mid new from is many begun h =
-    subst (λ fs. OnOk r (new ≡ old ++ flat_one (form kind p fs))) (body-is s n args left body from is)
-    (under_form r kind p count (forms_in s body) old mid new (many ∙ sym (count-forms s body)) begun h)
+    → new ≡ mid ++ flat (forms_in s body) → new ≡ old ++ flat_one (form kind p (body_in s n args))
+body_form s kind p n count args left body old mid new from is many begun h =
+    subst (λ fs. new ≡ old ++ flat_one (form kind p fs)) (body-is s n args left body from is)
+    (under_form kind p count (forms_in s body) old mid new (many ∙ sym (count-forms s body)) begun h)
 
 -- a form with one in front of a body
-pub front_form : {A E : Type 0} (r : Result A E) (s : Scope) (kind : CoreKind) (p n count : ℕ) (a : Single) (args left body : Data) (old one mid new : List ExpandedNode)
+pub front_form : (s : Scope) (kind : CoreKind) (p n count : ℕ) (a : Single) (args left body : Data) (old one mid new : List ExpandedNode)
     → left ≡ behind n args → body ≡ body_of s.names left → count ≡ data_in body → one ≡ old ++ node (Form kind) p (count + 1) ∷ []
-    → mid ≡ one ++ flat_one a → OnOk r (new ≡ mid ++ flat (forms_in s body)) → OnOk r (new ≡ old ++ flat_one (form kind p (in_front a (body_in s n args))))
-front_form r s kind p n count a args left body old one mid new from is many begun first h =
+    → mid ≡ one ++ flat_one a → new ≡ mid ++ flat (forms_in s body) → new ≡ old ++ flat_one (form kind p (in_front a (body_in s n args)))
+front_form s kind p n count a args left body old one mid new from is many begun first h =
     let all : count + 1 ≡ suc (count_of (forms_in s body)) = add-one count ∙ ap suc (many ∙ sym (count-forms s body)) in
-    subst (λ fs. OnOk r (new ≡ old ++ flat_one (form kind p (in_front a fs)))) (body-is s n args left body from is)
-    (last_step r old mid new ((node (Form kind) p (count + 1) ∷ []) ++ flat_one a) (flat (forms_in s body)) _ (two_steps old one mid (node (Form kind) p (count + 1) ∷ []) (flat_one a) begun first)
+    subst (λ fs. new ≡ old ++ flat_one (form kind p (in_front a fs))) (body-is s n args left body from is)
+    (last_step old mid new ((node (Form kind) p (count + 1) ∷ []) ++ flat_one a) (flat (forms_in s body)) _ (two_steps old one mid (node (Form kind) p (count + 1) ∷ []) (flat_one a) begun first)
     (ap (λ m. node (Form kind) p m ∷ (flat_one a ++ flat (forms_in s body))) all) h)
 
 -- a form with others in front of a body
-pub joined_form : {A E : Type 0} (r : Result A E) (s : Scope) (kind : CoreKind) (roles : Roles) (p n parts count : ℕ) (args items left body : Data) (old one mid new : List ExpandedNode)
+pub joined_form : (s : Scope) (kind : CoreKind) (roles : Roles) (p n parts count : ℕ) (args items left body : Data) (old one mid new : List ExpandedNode)
     → items ≡ items_first args → left ≡ behind n args → body ≡ body_of s.names left → parts ≡ parts_of roles 0 (data_in items) → count ≡ data_in body
-    → one ≡ old ++ node (Form kind) p (parts + count) ∷ [] → mid ≡ one ++ flat (by_roles s roles 0 items) → OnOk r (new ≡ mid ++ flat (forms_in s body))
-    → OnOk r (new ≡ old ++ flat_one (form kind p (joined (within_first s roles args) (body_in s n args))))
-joined_form r s kind roles p n parts count args items left body old one mid new within from is few many begun first h =
+    → one ≡ old ++ node (Form kind) p (parts + count) ∷ [] → mid ≡ one ++ flat (by_roles s roles 0 items) → new ≡ mid ++ flat (forms_in s body)
+    → new ≡ old ++ flat_one (form kind p (joined (within_first s roles args) (body_in s n args)))
+joined_form s kind roles p n parts count args items left body old one mid new within from is few many begun first h =
     let fs : Expansion = by_roles s roles 0 items in
     let gs : Expansion = forms_in s body in
     let front : fs ≡ within_first s roles args = ap (by_roles s roles 0) within ∙ sym (within-items s roles args) in
     let all : parts + count ≡ count_of (joined fs gs) =
     ap (λ m. m + count) (few ∙ sym (count-roles s roles 0 items)) ∙ ap (λ m. count_of fs + m) (many ∙ sym (count-forms s body)) ∙ sym (count-joined fs gs) in
-    subst (λ es. OnOk r (new ≡ old ++ flat_one (form kind p (joined es (body_in s n args))))) front
-    (subst (λ es. OnOk r (new ≡ old ++ flat_one (form kind p (joined fs es)))) (body-is s n args left body from is)
-    (last_step r old mid new ((node (Form kind) p (parts + count) ∷ []) ++ flat fs) (flat gs) _ (two_steps old one mid (node (Form kind) p (parts + count) ∷ []) (flat fs) begun first)
+    subst (λ es. new ≡ old ++ flat_one (form kind p (joined es (body_in s n args)))) front
+    (subst (λ es. new ≡ old ++ flat_one (form kind p (joined fs es))) (body-is s n args left body from is)
+    (last_step old mid new ((node (Form kind) p (parts + count) ∷ []) ++ flat fs) (flat gs) _ (two_steps old one mid (node (Form kind) p (parts + count) ∷ []) (flat fs) begun first)
     (ap (λ m. node (Form kind) p m ∷ (flat fs ++ flat gs)) all ∙ ap (λ ns. node (Form kind) p (count_of (joined fs gs)) ∷ ns) (sym (flat-joined fs gs))) h))
 
 -- what is written of a clause whose variable is special
@@ -102,27 +102,27 @@ flat-special true n p x count class fs h many =
 flat-special false n p x count class fs h many = absurd (true≢false (sym h))
 
 -- a clause whose variable is special
-pub special_clause : {A E : Type 0} (r : Result A E) (s t : Scope) (n p x count : ℕ) (class : Class) (body : Data) (old a b d mid new : List ExpandedNode)
+pub special_clause : (s t : Scope) (n p x count : ℕ) (class : Class) (body : Data) (old a b d mid new : List ExpandedNode)
     → has s.specials x ≡ true → t ≡ received_by s x → count ≡ data_in body
     → a ≡ old ++ node (Form (k.ClauseWith class n)) p 1 ∷ [] → b ≡ a ++ node (Form k.Let) p 2 ∷ [] → d ≡ b ++ flat_one (local n p)
-    → mid ≡ d ++ node (Form (k.BindSpecial x 0)) p count ∷ [] → OnOk r (new ≡ mid ++ flat (forms_in t body))
-    → OnOk r (new ≡ old ++ flat_one (clause_form s n p class (Some x) (forms_in (received_by s x) body)))
-special_clause r s t n p x count class body old a b d mid new is within many first second third fourth h =
+    → mid ≡ d ++ node (Form (k.BindSpecial x 0)) p count ∷ [] → new ≡ mid ++ flat (forms_in t body)
+    → new ≡ old ++ flat_one (clause_form s n p class (Some x) (forms_in (received_by s x) body))
+special_clause s t n p x count class body old a b d mid new is within many first second third fourth h =
     let fs : Expansion = forms_in t body in
     let head : List ExpandedNode = node (Form (k.ClauseWith class n)) p 1 ∷ (node (Form k.Let) p 2 ∷ flat_one (local n p)) in
     let bind : List ExpandedNode = node (Form (k.BindSpecial x 0)) p count ∷ [] in
-    subst (λ u. OnOk r (new ≡ old ++ flat_one (clause_form s n p class (Some x) (forms_in u body)))) within
-    (last_step r old mid new (head ++ bind) (flat fs) _ (two_steps old d mid head bind (three_steps old a b d (node (Form (k.ClauseWith class n)) p 1 ∷ []) (node (Form k.Let) p 2 ∷ []) (flat_one (local n p)) first second third) fourth)
+    subst (λ u. new ≡ old ++ flat_one (clause_form s n p class (Some x) (forms_in u body))) within
+    (last_step old mid new (head ++ bind) (flat fs) _ (two_steps old d mid head bind (three_steps old a b d (node (Form (k.ClauseWith class n)) p 1 ∷ []) (node (Form k.Let) p 2 ∷ []) (flat_one (local n p)) first second third) fourth)
     (flat-special (has s.specials x) n p x count class fs is (many ∙ sym (count-forms t body))) h)
 
 -- a clause whose variable is lexical
-pub lexical_clause : {A E : Type 0} (r : Result A E) (s t : Scope) (n p x count : ℕ) (class : Class) (body : Data) (old mid new : List ExpandedNode)
+pub lexical_clause : (s t : Scope) (n p x count : ℕ) (class : Class) (body : Data) (old mid new : List ExpandedNode)
     → has s.specials x ≡ false → t ≡ received_by s x → count ≡ data_in body
-    → mid ≡ old ++ node (Form (k.ClauseWith class n)) p count ∷ [] → OnOk r (new ≡ mid ++ flat (forms_in t body))
-    → OnOk r (new ≡ old ++ flat_one (clause_form s n p class (Some x) (forms_in (received_by s x) body)))
-lexical_clause r s t n p x count class body old mid new is opened many begun h =
-    subst (λ u. OnOk r (new ≡ old ++ flat_one (clause_form s n p class (Some x) (forms_in u body)))) opened
-    (rw is (under_form r (k.ClauseWith class n) p count (forms_in t body) old mid new (many ∙ sym (count-forms t body)) begun h))
+    → mid ≡ old ++ node (Form (k.ClauseWith class n)) p count ∷ [] → new ≡ mid ++ flat (forms_in t body)
+    → new ≡ old ++ flat_one (clause_form s n p class (Some x) (forms_in (received_by s x) body))
+lexical_clause s t n p x count class body old mid new is opened many begun h =
+    subst (λ u. new ≡ old ++ flat_one (clause_form s n p class (Some x) (forms_in u body))) opened
+    (rw is (under_form (k.ClauseWith class n) p count (forms_in t body) old mid new (many ∙ sym (count-forms t body)) begun h))
 
 -- a clause that begins with a symbol
 clause-first : (s : Scope) (p : ℕ) (first : First) (others : Data) → is_list first ≡ false

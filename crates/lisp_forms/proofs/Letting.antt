@@ -1,5 +1,5 @@
 -- A `let`: its variables, its values and its body.
-use Rattle.std.proofs.Common.{◌≡◌, ◌≢◌, ℕ, suc, ◌+◌, ◌<◌, ◌≤◌, ◌^◌, List, [], ◌∷◌, ◌++◌, Option, Some, None, OnOk, Result, length, refl, ap, sym, ◌∙◌, arith, append_assoc, append-nil}
+use Rattle.std.proofs.Common.{◌≡◌, ◌≢◌, ℕ, suc, ◌+◌, ◌<◌, ◌≤◌, ◌^◌, List, [], ◌∷◌, ◌++◌, Option, Some, None, length, refl, ap, sym, ◌∙◌, arith, append_assoc, append-nil}
 use Rattle.lisp_base.specs.Forest.{count_of, joined}
 use Rattle.lisp_program.specs.declared.form.CoreKind.TheVariants.{Let, Progn}
 use Rattle.lisp_data.specs.Data.{Data, NoData, Atom, Listed, behind, count_of as data_in}
@@ -73,27 +73,27 @@ let_star-none s p [] values body h = refl
 let_star-none s p (x ∷ xs) values body h = absurd (omega (arith, h))
 
 -- what a `let` and a `let*` without variables write
-none_written : {A E : Type 0} (r : Result A E) (s : Scope) (o : Opened) (p n : ℕ) (args rest body : Data) (xs : List ℕ) (one : Single) (old mid new : List ExpandedNode)
+none_written : (s : Scope) (o : Opened) (p n : ℕ) (args rest body : Data) (xs : List ℕ) (one : Single) (old mid new : List ExpandedNode)
     → one ≡ progn_form p (body_in (opened s (let_variables args)) 1 args)
     → xs ≡ let_variables args → with_opened s o ≡ opened s xs → rest ≡ behind 1 args → body ≡ body_of s.names rest → n ≡ data_in body
-    → mid ≡ old ++ node (Form Progn) p n ∷ [] → OnOk r (new ≡ mid ++ flat (forms_in (with_opened s o) body)) → OnOk r (new ≡ old ++ flat_one one)
-none_written r s o p n args rest body xs one old mid new only is opens behind begins many before h =
-    last_step r old mid new (node (Form Progn) p n ∷ []) (flat (forms_in (with_opened s o) body)) (flat_one one) before
+    → mid ≡ old ++ node (Form Progn) p n ∷ [] → new ≡ mid ++ flat (forms_in (with_opened s o) body) → new ≡ old ++ flat_one one
+none_written s o p n args rest body xs one old mid new only is opens behind begins many before h =
+    last_step old mid new (node (Form Progn) p n ∷ []) (flat (forms_in (with_opened s o) body)) (flat_one one) before
     (progn_nodes p n _ (forms_in (with_opened s o) body) one only (body-opened s o xs args rest body is opens behind begins) (many ∙ sym (count-forms (with_opened s o) body))) h
 
-pub let_of_none : {A E : Type 0} (r : Result A E) (s : Scope) (o : Opened) (p n : ℕ) (args rest body : Data) (xs : List ℕ) (old mid new : List ExpandedNode)
+pub let_of_none : (s : Scope) (o : Opened) (p n : ℕ) (args rest body : Data) (xs : List ℕ) (old mid new : List ExpandedNode)
     → length xs ≡ 0 → xs ≡ let_variables args → with_opened s o ≡ opened s xs → rest ≡ behind 1 args → body ≡ body_of s.names rest → n ≡ data_in body
-    → mid ≡ old ++ node (Form Progn) p n ∷ [] → OnOk r (new ≡ mid ++ flat (forms_in (with_opened s o) body))
-    → OnOk r (new ≡ old ++ flat_one (let_form s p (let_variables args) (values_first s args) (body_in (opened s (let_variables args)) 1 args)))
-let_of_none r s o p n args rest body xs old mid new none is opens behind begins many before h =
-    none_written r s o p n args rest body xs _ old mid new (let-none s p (let_variables args) (values_first s args) _ (sym (ap length is) ∙ none)) is opens behind begins many before h
+    → mid ≡ old ++ node (Form Progn) p n ∷ [] → new ≡ mid ++ flat (forms_in (with_opened s o) body)
+    → new ≡ old ++ flat_one (let_form s p (let_variables args) (values_first s args) (body_in (opened s (let_variables args)) 1 args))
+let_of_none s o p n args rest body xs old mid new none is opens behind begins many before h =
+    none_written s o p n args rest body xs _ old mid new (let-none s p (let_variables args) (values_first s args) _ (sym (ap length is) ∙ none)) is opens behind begins many before h
 
-pub let_star_of_none : {A E : Type 0} (r : Result A E) (s : Scope) (o : Opened) (p n : ℕ) (args rest body : Data) (xs : List ℕ) (old mid new : List ExpandedNode)
+pub let_star_of_none : (s : Scope) (o : Opened) (p n : ℕ) (args rest body : Data) (xs : List ℕ) (old mid new : List ExpandedNode)
     → length xs ≡ 0 → xs ≡ let_variables args → with_opened s o ≡ opened s xs → rest ≡ behind 1 args → body ≡ body_of s.names rest → n ≡ data_in body
-    → mid ≡ old ++ node (Form Progn) p n ∷ [] → OnOk r (new ≡ mid ++ flat (forms_in (with_opened s o) body))
-    → OnOk r (new ≡ old ++ flat_one (let_star_form s p (let_variables args) (turn_first s args) (body_in (opened s (let_variables args)) 1 args)))
-let_star_of_none r s o p n args rest body xs old mid new none is opens behind begins many before h =
-    none_written r s o p n args rest body xs _ old mid new (let_star-none s p (let_variables args) (turn_first s args) _ (sym (ap length is) ∙ none)) is opens behind begins many before h
+    → mid ≡ old ++ node (Form Progn) p n ∷ [] → new ≡ mid ++ flat (forms_in (with_opened s o) body)
+    → new ≡ old ++ flat_one (let_star_form s p (let_variables args) (turn_first s args) (body_in (opened s (let_variables args)) 1 args))
+let_star_of_none s o p n args rest body xs old mid new none is opens behind begins many before h =
+    none_written s o p n args rest body xs _ old mid new (let_star-none s p (let_variables args) (turn_first s args) _ (sym (ap length is) ∙ none)) is opens behind begins many before h
 
 -- the bindings are written in front of what they are round
 flat-binds : (s : Scope) (p : ℕ) (xs : List ℕ) (body : Expansion) → flat (binds s p xs body) ≡ bind_nodes s p (count_of body) xs ++ flat body
@@ -121,13 +121,13 @@ some_written s p n k (x ∷ xs) values body v b some same under many few =
     flat-let s p n k x xs values body many few
     ∙ sym (ap (λ e. flat_one (let_form s p (x ∷ xs) e b)) same ∙ ap (λ e. flat_one (let_form s p (x ∷ xs) values e)) under)
 
-pub let_of_some : {A E : Type 0} (r : Result A E) (s : Scope) (o : Opened) (p n k : ℕ) (args rest body bindings : Data) (xs : List ℕ) (old one two mid new : List ExpandedNode)
+pub let_of_some : (s : Scope) (o : Opened) (p n k : ℕ) (args rest body bindings : Data) (xs : List ℕ) (old one two mid new : List ExpandedNode)
     → length xs ≢ 0 → xs ≡ let_variables args → with_opened s o ≡ opened s xs → rest ≡ behind 1 args → body ≡ body_of s.names rest → k ≡ data_in body
     → bindings ≡ items_first args → n ≡ data_in bindings
     → one ≡ old ++ node (Form Let) p (n + 1) ∷ [] → two ≡ one ++ flat (values_in s bindings) → mid ≡ two ++ bind_nodes s p k xs
-    → OnOk r (new ≡ mid ++ flat (forms_in (with_opened s o) body))
-    → OnOk r (new ≡ old ++ flat_one (let_form s p (let_variables args) (values_first s args) (body_in (opened s (let_variables args)) 1 args)))
-let_of_some r s o p n k args rest body bindings xs old one two mid new some is opens behind begins few first many begun valued bound h =
+    → new ≡ mid ++ flat (forms_in (with_opened s o) body)
+    → new ≡ old ++ flat_one (let_form s p (let_variables args) (values_first s args) (body_in (opened s (let_variables args)) 1 args))
+let_of_some s o p n k args rest body bindings xs old one two mid new some is opens behind begins few first many begun valued bound h =
     let t : Scope = with_opened s o in
     let top : List ExpandedNode = node (Form Let) p (n + 1) ∷ [] in
     let values : List ExpandedNode = flat (values_in s bindings) in
@@ -139,4 +139,4 @@ let_of_some r s o p n k args rest body bindings xs old one two mid new some is o
     ∙ ap (λ ys. flat_one (let_form s p ys (values_first s args) b)) is in
     let front : mid ≡ old ++ (top ++ (values ++ bind_nodes s p k xs)) =
     two_steps old one mid top (values ++ bind_nodes s p k xs) begun (two_steps one two mid values (bind_nodes s p k xs) valued bound) in
-    last_step r old mid new (top ++ (values ++ bind_nodes s p k xs)) (flat (forms_in t body)) _ front all h
+    last_step old mid new (top ++ (values ++ bind_nodes s p k xs)) (flat (forms_in t body)) _ front all h

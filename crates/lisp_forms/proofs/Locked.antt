@@ -1,5 +1,5 @@
 -- Locks, timeouts and functions, written in several steps.
-use Rattle.std.proofs.Common.{◌≡◌, ℕ, suc, ◌+◌, List, [], ◌∷◌, ◌++◌, Bool, false, OnOk, Result, refl, ap, subst, sym, ◌∙◌, append_assoc, append-nil, add-one}
+use Rattle.std.proofs.Common.{◌≡◌, ℕ, suc, ◌+◌, List, [], ◌∷◌, ◌++◌, Bool, false, refl, ap, subst, sym, ◌∙◌, append_assoc, append-nil, add-one}
 use Rattle.lisp_base.specs.Forest.{NoTrees, count_of}
 use Rattle.lisp_program.specs.declared.form.CoreKind.TheVariants as k
 use Rattle.lisp_program.specs.declared.function.Service.TheVariants as service
@@ -25,18 +25,18 @@ use Rattle.lisp_forms.proofs.Bodied.{body-is, one-of, three-of, three_steps, two
 use Rattle.lisp_forms.proofs.Parts.{count-forms, count-roles, last_step, others-forms, roles-from_0, two_steps, within-items}
 
 -- the body of a lock, and its cleanup
-pub locked_body : {A E : Type 0} (r : Result A E) (l : Lock) (s : Scope) (p count : ℕ) (body : Data) (old a b d e f new : List ExpandedNode)
+pub locked_body : (l : Lock) (s : Scope) (p count : ℕ) (body : Data) (old a b d e f new : List ExpandedNode)
     → count ≡ data_in body → a ≡ old ++ node (Form k.Progn) p 1 ∷ [] → b ≡ a ++ node (Form (k.AllowWithInterrupts l.region)) p 1 ∷ []
     → d ≡ b ++ node (Form k.WithInterrupts) p count ∷ [] → e ≡ d ++ flat (forms_in s body) → f ≡ e ++ flat_one (nil_form p)
-    → OnOk r (new ≡ f ++ flat_one (release_form l.mutex l.grabbed p)) → OnOk r (new ≡ old ++ locked_nodes l p (forms_in s body))
-locked_body r l s p count body old a b d e f new many first second third fourth fifth h =
+    → new ≡ f ++ flat_one (release_form l.mutex l.grabbed p) → new ≡ old ++ locked_nodes l p (forms_in s body)
+locked_body l s p count body old a b d e f new many first second third fourth fifth h =
     let fs : Expansion = forms_in s body in
     let release : List ExpandedNode = flat_one (release_form l.mutex l.grabbed p) in
     let head : ℕ → List ExpandedNode = λ m. node (Form k.Progn) p 1 ∷ (node (Form (k.AllowWithInterrupts l.region)) p 1 ∷ (node (Form k.WithInterrupts) p m ∷ [])) in
     let behind : List ExpandedNode = flat fs ++ flat_one (nil_form p) in
     let all : (head count ++ behind) ++ release ≡ locked_nodes l p fs =
     ap (λ m. (head m ++ behind) ++ release) (many ∙ sym (count-forms s body)) ∙ ap (λ ns. head (count_of fs) ++ ns) (append_assoc (flat fs) (flat_one (nil_form p)) release) in
-    last_step r old f new (head count ++ behind) release _
+    last_step old f new (head count ++ behind) release _
     (two_steps old d f (head count) behind
     (three_steps old a b d (node (Form k.Progn) p 1 ∷ []) (node (Form (k.AllowWithInterrupts l.region)) p 1 ∷ []) (node (Form k.WithInterrupts) p count ∷ []) first second third)
     (two_steps d e f (flat fs) (flat_one (nil_form p)) fourth fifth)) all h
@@ -100,49 +100,49 @@ first-roles : (s : Scope) (roles : Roles) (args items : Data) → items ≡ item
 first-roles s roles args items is = ap (by_roles s roles 0) is ∙ sym (within-items s roles args)
 
 -- a mutex, of its forms
-mutex_parts : {A E : Type 0} (r : Result A E) (g p n : ℕ) (waitp timeout : Bool) (mutex : Single) (operands body : Expansion) (old a b d e f new : List ExpandedNode)
+mutex_parts : (g p n : ℕ) (waitp timeout : Bool) (mutex : Single) (operands body : Expansion) (old a b d e f new : List ExpandedNode)
     → n ≡ suc (count_of operands) → a ≡ old ++ node (Form k.Let) p 3 ∷ [] → b ≡ a ++ flat_one mutex → d ≡ b ++ region_nodes (lock_of g) p
-    → e ≡ d ++ grab_nodes (lock_of g) waitp timeout n p → f ≡ e ++ flat operands → OnOk r (new ≡ f ++ locked_nodes (lock_of g) p body)
-    → OnOk r (new ≡ old ++ flat_one (mutex_form g p waitp timeout mutex operands body))
-mutex_parts r g p n waitp timeout mutex operands body old a b d e f new many first second third fourth fifth h =
+    → e ≡ d ++ grab_nodes (lock_of g) waitp timeout n p → f ≡ e ++ flat operands → new ≡ f ++ locked_nodes (lock_of g) p body
+    → new ≡ old ++ flat_one (mutex_form g p waitp timeout mutex operands body)
+mutex_parts g p n waitp timeout mutex operands body old a b d e f new many first second third fourth fifth h =
     let front : List ExpandedNode = lock_front g p mutex in
     let grab : List ExpandedNode = grab_nodes (lock_of g) waitp timeout n p in
     let last : List ExpandedNode = locked_nodes (lock_of g) p body in
     let all : (front ++ (grab ++ flat operands)) ++ last ≡ flat_one (mutex_form g p waitp timeout mutex operands body) =
     ap (λ ns. (front ++ ns) ++ last) (flat-grabbing g p n waitp timeout operands many) ∙ flat-locked g p mutex (grabbing g p waitp timeout operands) body in
-    last_step r old f new (front ++ (grab ++ flat operands)) last _
+    last_step old f new (front ++ (grab ++ flat operands)) last _
     (two_steps old d f front (grab ++ flat operands)
     (three_steps old a b d (node (Form k.Let) p 3 ∷ []) (flat_one mutex) (region_nodes (lock_of g) p) first second third) (two_steps d e f grab (flat operands) fourth fifth)) all h
 
 -- a mutex
-pub mutex_steps : {A E : Type 0} (r : Result A E) (base : Base) (levels : List Numbered) (g p count : ℕ) (waitp timeout : Bool) (l : Lock) (args items operands left body : Data)
+pub mutex_steps : (base : Base) (levels : List Numbered) (g p count : ℕ) (waitp timeout : Bool) (l : Lock) (args items operands left body : Data)
     (old a b d e f new : List ExpandedNode)
     → l ≡ lock_of g → items ≡ items_first args → operands ≡ items_first args → count ≡ parts_of (Values 1) 0 (data_in operands)
     → left ≡ behind 1 args → body ≡ body_of base.symbols.now left → a ≡ old ++ node (Form k.Let) p 3 ∷ []
     → b ≡ a ++ flat_one (first p (forms_in (scope_at base levels g) items)) → d ≡ b ++ region_nodes l p → e ≡ d ++ grab_nodes l waitp timeout (count + 1) p
     → f ≡ e ++ flat (by_roles (scope_at base levels l.inside) (Values 1) 0 operands)
-    → OnOk r (new ≡ f ++ locked_nodes l p (forms_in (scope_at base levels l.inside) body))
-    → OnOk r (new ≡ old ++ flat_one (mutex_form g p waitp timeout (first p (within_first (scope_at base levels g) (From 0) args))
-    (within_first (in_lock (scope_at base levels g)) (Values 1) args) (body_in (in_lock (scope_at base levels g)) 1 args)))
-mutex_steps r base levels g p count waitp timeout l args items operands left body old a b d e f new is here there many from inside first' second third fourth fifth h =
+    → new ≡ f ++ locked_nodes l p (forms_in (scope_at base levels l.inside) body)
+    → new ≡ old ++ flat_one (mutex_form g p waitp timeout (first p (within_first (scope_at base levels g) (From 0) args))
+    (within_first (in_lock (scope_at base levels g)) (Values 1) args) (body_in (in_lock (scope_at base levels g)) 1 args))
+mutex_steps base levels g p count waitp timeout l args items operands left body old a b d e f new is here there many from inside first' second third fourth fifth h =
     let s : Scope = scope_at base levels g in
     let u : Scope = in_lock s in
     let parts : count + 1 ≡ suc (count_of (within_first u (Values 1) args)) =
     add-one count ∙ ap suc (many ∙ sym (count-roles u (Values 1) 0 operands)) ∙ ap (λ fs. suc (count_of fs)) (first-roles u (Values 1) args operands there) in
-    let last : OnOk r (new ≡ f ++ locked_nodes (lock_of g) p (forms_in u body)) =
-    subst (λ (m : Lock). OnOk r (new ≡ f ++ locked_nodes m p (forms_in (scope_at base levels m.inside) body))) is h in
-    mutex_parts r g p (count + 1) waitp timeout (first p (within_first s (From 0) args)) (within_first u (Values 1) args) (body_in u 1 args) old a b d e f new parts first'
+    let last : new ≡ f ++ locked_nodes (lock_of g) p (forms_in u body) =
+    subst (λ (m : Lock). new ≡ f ++ locked_nodes m p (forms_in (scope_at base levels m.inside) body)) is h in
+    mutex_parts g p (count + 1) waitp timeout (first p (within_first s (From 0) args)) (within_first u (Values 1) args) (body_in u 1 args) old a b d e f new parts first'
     (second ∙ ap (λ fs. a ++ flat_one (first p fs)) (first-forms s args items here))
     (third ∙ ap (λ m. b ++ region_nodes m p) is) (fourth ∙ ap (λ m. d ++ grab_nodes m waitp timeout (count + 1) p) is)
     (fifth ∙ ap (λ (m : Lock). e ++ flat (by_roles (scope_at base levels m.inside) (Values 1) 0 operands)) is ∙ ap (λ fs. e ++ flat fs) (first-roles u (Values 1) args operands there))
-    (subst (λ fs. OnOk r (new ≡ f ++ locked_nodes (lock_of g) p fs)) (body-is u 1 args left body from inside) last)
+    (subst (λ fs. new ≡ f ++ locked_nodes (lock_of g) p fs) (body-is u 1 args left body from inside) last)
 
 -- a recursive lock, of its forms
-lock_parts : {A E : Type 0} (r : Result A E) (g p : ℕ) (mutex : Single) (body : Expansion) (old a b d e f new : List ExpandedNode)
+lock_parts : (g p : ℕ) (mutex : Single) (body : Expansion) (old a b d e f new : List ExpandedNode)
     → a ≡ old ++ node (Form k.Let) p 3 ∷ [] → b ≡ a ++ flat_one mutex → d ≡ b ++ region_nodes (lock_of g) p
     → e ≡ d ++ either_nodes (lock_of g).inside p (held_form g p) → f ≡ e ++ grab_nodes (lock_of g) false false 1 p
-    → OnOk r (new ≡ f ++ locked_nodes (lock_of g) p body) → OnOk r (new ≡ old ++ flat_one (lock_form g p mutex body))
-lock_parts r g p mutex body old a b d e f new first second third fourth fifth h =
+    → new ≡ f ++ locked_nodes (lock_of g) p body → new ≡ old ++ flat_one (lock_form g p mutex body)
+lock_parts g p mutex body old a b d e f new first second third fourth fifth h =
     let front : List ExpandedNode = lock_front g p mutex in
     let x : ℕ = suc (suc (suc g)) in
     let held : List ExpandedNode = either_nodes x p (held_form g p) in
@@ -153,26 +153,26 @@ lock_parts r g p mutex body old a b d e f new first second third fourth fifth h 
     let all : (front ++ (held ++ grabbed)) ++ last ≡ flat_one (lock_form g p mutex body) =
     ap (λ ns. (front ++ (held ++ ns)) ++ last) same ∙ ap (λ ns. (front ++ ns) ++ last) (flat-either x p (held_form g p) grab)
     ∙ flat-locked g p mutex (either x p (held_form g p) grab) body in
-    last_step r old f new (front ++ (held ++ grabbed)) last _
+    last_step old f new (front ++ (held ++ grabbed)) last _
     (two_steps old d f front (held ++ grabbed)
     (three_steps old a b d (node (Form k.Let) p 3 ∷ []) (flat_one mutex) (region_nodes (lock_of g) p) first second third) (two_steps d e f held grabbed fourth fifth)) all h
 
 -- a recursive lock
-pub lock_steps : {A E : Type 0} (r : Result A E) (base : Base) (levels : List Numbered) (g p : ℕ) (l : Lock) (args items left body : Data) (old a b d e f new : List ExpandedNode)
+pub lock_steps : (base : Base) (levels : List Numbered) (g p : ℕ) (l : Lock) (args items left body : Data) (old a b d e f new : List ExpandedNode)
     → l ≡ lock_of g → items ≡ items_first args → left ≡ behind 1 args → body ≡ body_of base.symbols.now left → a ≡ old ++ node (Form k.Let) p 3 ∷ []
     → b ≡ a ++ flat_one (first p (forms_in (scope_at base levels g) items)) → d ≡ b ++ region_nodes l p → e ≡ d ++ either_nodes l.inside p (held_form l.mutex p)
-    → f ≡ e ++ grab_nodes l false false 1 p → OnOk r (new ≡ f ++ locked_nodes l p (forms_in (scope_at base levels l.inside) body))
-    → OnOk r (new ≡ old ++ flat_one (lock_form g p (first p (within_first (scope_at base levels g) (From 0) args)) (body_in (in_lock (scope_at base levels g)) 1 args)))
-lock_steps r base levels g p l args items left body old a b d e f new is here from inside first' second third fourth fifth h =
+    → f ≡ e ++ grab_nodes l false false 1 p → new ≡ f ++ locked_nodes l p (forms_in (scope_at base levels l.inside) body)
+    → new ≡ old ++ flat_one (lock_form g p (first p (within_first (scope_at base levels g) (From 0) args)) (body_in (in_lock (scope_at base levels g)) 1 args))
+lock_steps base levels g p l args items left body old a b d e f new is here from inside first' second third fourth fifth h =
     let s : Scope = scope_at base levels g in
     let u : Scope = in_lock s in
-    let last : OnOk r (new ≡ f ++ locked_nodes (lock_of g) p (forms_in u body)) =
-    subst (λ (m : Lock). OnOk r (new ≡ f ++ locked_nodes m p (forms_in (scope_at base levels m.inside) body))) is h in
-    lock_parts r g p (first p (within_first s (From 0) args)) (body_in u 1 args) old a b d e f new first'
+    let last : new ≡ f ++ locked_nodes (lock_of g) p (forms_in u body) =
+    subst (λ (m : Lock). new ≡ f ++ locked_nodes m p (forms_in (scope_at base levels m.inside) body)) is h in
+    lock_parts g p (first p (within_first s (From 0) args)) (body_in u 1 args) old a b d e f new first'
     (second ∙ ap (λ fs. a ++ flat_one (first p fs)) (first-forms s args items here))
     (third ∙ ap (λ m. b ++ region_nodes m p) is) (fourth ∙ ap (λ (m : Lock). d ++ either_nodes m.inside p (held_form m.mutex p)) is)
     (fifth ∙ ap (λ m. e ++ grab_nodes m false false 1 p) is)
-    (subst (λ fs. OnOk r (new ≡ f ++ locked_nodes (lock_of g) p fs)) (body-is u 1 args left body from inside) last)
+    (subst (λ fs. new ≡ f ++ locked_nodes (lock_of g) p fs) (body-is u 1 args left body from inside) last)
 
 -- a timeout is written in four parts
 flat-timeout : (g p : ℕ) (seconds : Single) (body : Expansion)
@@ -196,12 +196,12 @@ flat-timeout g p seconds body =
     (two-of k.UnwindProtect p (progn_form p body) unschedule (flat_one (progn_form p body)) _ refl (one-of (k.Serve service.UnscheduleTimer) p (local g p) here refl))))
 
 -- a timeout, of its forms
-timeout_parts : {A E : Type 0} (r : Result A E) (g p : ℕ) (seconds : Single) (body : Expansion) (old a b d e f i j m n new : List ExpandedNode)
+timeout_parts : (g p : ℕ) (seconds : Single) (body : Expansion) (old a b d e f i j m n new : List ExpandedNode)
     → a ≡ old ++ node (Form k.Let) p 2 ∷ [] → b ≡ a ++ flat_one (timer_form p) → d ≡ b ++ node (Form (k.BindLocal g 0)) p 2 ∷ []
     → e ≡ d ++ node (Form (k.Serve (service.ScheduleTimer false false))) p 2 ∷ [] → f ≡ e ++ flat_one (local g p) → i ≡ f ++ flat_one seconds
     → j ≡ i ++ node (Form k.UnwindProtect) p 2 ∷ [] → m ≡ j ++ flat_one (progn_form p body) → n ≡ m ++ node (Form (k.Serve service.UnscheduleTimer)) p 1 ∷ []
-    → OnOk r (new ≡ n ++ flat_one (local g p)) → OnOk r (new ≡ old ++ flat_one (timeout_form g p seconds body))
-timeout_parts r g p seconds body old a b d e f i j m n new s1 s2 s3 s4 s5 s6 s7 s8 s9 h =
+    → new ≡ n ++ flat_one (local g p) → new ≡ old ++ flat_one (timeout_form g p seconds body)
+timeout_parts g p seconds body old a b d e f i j m n new s1 s2 s3 s4 s5 s6 s7 s8 s9 h =
     let here : List ExpandedNode = flat_one (local g p) in
     let bind : List ExpandedNode = node (Form (k.BindLocal g 0)) p 2 ∷ [] in
     let plan : List ExpandedNode = node (Form (k.Serve (service.ScheduleTimer false false))) p 2 ∷ [] in
@@ -210,24 +210,24 @@ timeout_parts r g p seconds body old a b d e f i j m n new s1 s2 s3 s4 s5 s6 s7 
     let begin : List ExpandedNode = (node (Form k.Let) p 2 ∷ []) ++ (flat_one (timer_form p) ++ bind) in
     let middle : List ExpandedNode = plan ++ (here ++ flat_one seconds) in
     let end : List ExpandedNode = protect ++ (flat_one (progn_form p body) ++ stop) in
-    last_step r old n new (begin ++ (middle ++ end)) here (flat_one (timeout_form g p seconds body))
+    last_step old n new (begin ++ (middle ++ end)) here (flat_one (timeout_form g p seconds body))
     (three_steps old d i n begin middle end (three_steps old a b d (node (Form k.Let) p 2 ∷ []) (flat_one (timer_form p)) bind s1 s2 s3)
     (three_steps d e f i plan here (flat_one seconds) s4 s5 s6) (three_steps i j m n protect (flat_one (progn_form p body)) stop s7 s8 s9))
     (flat-timeout g p seconds body) h
 
 -- a timeout
-pub timeout_steps : {A E : Type 0} (r : Result A E) (base : Base) (levels : List Numbered) (g inner p : ℕ) (args left : Data) (old a b d e f i j m n new : List ExpandedNode)
+pub timeout_steps : (base : Base) (levels : List Numbered) (g inner p : ℕ) (args left : Data) (old a b d e f i j m n new : List ExpandedNode)
     → inner ≡ g + 1 → left ≡ behind 1 args
     → a ≡ old ++ node (Form k.Let) p 2 ∷ [] → b ≡ a ++ flat_one (timer_form p) → d ≡ b ++ node (Form (k.BindLocal g 0)) p 2 ∷ []
     → e ≡ d ++ node (Form (k.Serve (service.ScheduleTimer false false))) p 2 ∷ [] → f ≡ e ++ flat_one (local g p)
     → i ≡ f ++ flat_one (first p (forms_in (scope_at base levels inner) args))
     → j ≡ i ++ node (Form k.UnwindProtect) p 2 ∷ [] → m ≡ j ++ flat_one (progn_form p (forms_in (scope_at base levels inner) left))
-    → n ≡ m ++ node (Form (k.Serve service.UnscheduleTimer)) p 1 ∷ [] → OnOk r (new ≡ n ++ flat_one (local g p))
-    → OnOk r (new ≡ old ++ flat_one (timeout_form g p (first p (forms_in (deeper (scope_at base levels g)) args)) (others (forms_in (deeper (scope_at base levels g)) args))))
-timeout_steps r base levels g inner p args left old a b d e f i j m n new next from s1 s2 s3 s4 s5 s6 s7 s8 s9 h =
+    → n ≡ m ++ node (Form (k.Serve service.UnscheduleTimer)) p 1 ∷ [] → new ≡ n ++ flat_one (local g p)
+    → new ≡ old ++ flat_one (timeout_form g p (first p (forms_in (deeper (scope_at base levels g)) args)) (others (forms_in (deeper (scope_at base levels g)) args)))
+timeout_steps base levels g inner p args left old a b d e f i j m n new next from s1 s2 s3 s4 s5 s6 s7 s8 s9 h =
     let u : Scope = deeper (scope_at base levels g) in
     let one : inner ≡ suc g = next ∙ add-one g in
     let body : forms_in (scope_at base levels inner) left ≡ others (forms_in u args) =
     ap (λ x. forms_in (scope_at base levels x) left) one ∙ ap (forms_in u) from ∙ sym (others-forms u args) in
-    timeout_parts r g p (first p (forms_in u args)) (others (forms_in u args)) old a b d e f i j m n new s1 s2 s3 s4 s5
+    timeout_parts g p (first p (forms_in u args)) (others (forms_in u args)) old a b d e f i j m n new s1 s2 s3 s4 s5
     (s6 ∙ ap (λ x. f ++ flat_one (first p (forms_in (scope_at base levels x) args))) one) s7 (s8 ∙ ap (λ fs. j ++ flat_one (progn_form p fs)) body) s9 h

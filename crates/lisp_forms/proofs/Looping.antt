@@ -1,5 +1,7 @@
 -- A `loop` and a `dotimes`.
-use Rattle.std.proofs.Common.{◌≡◌, ℕ, suc, pos, ◌+◌, List, [], ◌∷◌, ◌++◌, Bool, true, false, Option, OnOk, Ok, Err, Result, if◌then◌else◌, refl, ap, sym, ◌∙◌, add-one, append_assoc, append-nil}
+use Rattle.std.proofs.Common.{◌≡◌, ℕ, suc, pos, ◌+◌, List, [], ◌∷◌, ◌++◌, Bool, true, false, Option, if◌then◌else◌, refl, ap, sym, ◌∙◌, add-one, append_assoc, append-nil}
+use Rattle.lisp_base.specs.Writing.{Wrote}
+use Rattle.lisp_base.proofs.Writing.{wrote_same}
 use Rattle.lisp_base.specs.Forest.{count_of}
 use Rattle.lisp_program.specs.declared.form.CoreKind.{CoreKind}
 use Rattle.lisp_program.specs.declared.form.CoreKind.TheVariants.{BindLocal, Block as BlockForm, Let, While}
@@ -30,28 +32,25 @@ flat-blocked n p a = by (returns_to n (only a))
     by false = rw append-nil refl
 
 -- one form in its implicit block
-blocked_one : {A E : Type 0} (r : Result A E) (n p : ℕ) (a : Single) (ns old new : List ExpandedNode) → ns ≡ flat_one a
-    → OnOk r ((e : Expansion) → ns ≡ flat e → 1 ≡ count_of e → new ≡ old ++ flat (blocked n p e)) → OnOk r (new ≡ old ++ flat_one (first p (blocked n p (only a))))
-blocked_one (Ok v) n p a ns old new is h = h (only a) (is ∙ sym (append-nil (flat_one a))) refl ∙ ap (λ ms. old ++ ms) (flat-blocked n p a)
-blocked_one (Err v) n p a ns old new is h = h
+blocked_one : (n p : ℕ) (a : Single) (ns : List ExpandedNode) (old new : Option (List ExpandedNode)) → ns ≡ flat_one a
+    → ((e : Expansion) → ns ≡ flat e → 1 ≡ count_of e → Wrote old new (flat (blocked n p e))) → Wrote old new (flat_one (first p (blocked n p (only a))))
+blocked_one n p a ns old new is h =
+    wrote_same old new (flat (blocked n p (only a))) (flat_one (first p (blocked n p (only a)))) (h (only a) (is ∙ sym (append-nil (flat_one a))) refl) (flat-blocked n p a)
 
 -- a `loop`
-pub loop_written : {A E : Type 0} (r : Result A E) (s : Scope) (o : Opened) (p name n : ℕ) (args body : Data) (none one two all old new : List ExpandedNode)
+pub loop_written : (s : Scope) (o : Opened) (p name n : ℕ) (args body : Data) (all : List ExpandedNode) (old new : Option (List ExpandedNode))
     → with_opened s o ≡ inside s (Block name) → name ≡ 0 → body ≡ body_of s.names args → n ≡ data_in body
-    → none ≡ [] → one ≡ none ++ node (Form While) p (n + 1) ∷ [] → two ≡ one ++ flat_one (true_form p) → all ≡ two ++ flat (forms_in (with_opened s o) body)
-    → OnOk r ((e : Expansion) → all ≡ flat e → 1 ≡ count_of e → new ≡ old ++ flat (blocked s.depth p e))
-    → OnOk r (new ≡ old ++ flat_one (loop_form s.depth p (body_in (inside s (Block 0)) 0 args)))
-loop_written r s o p name n args body none one two all old new opens nil begins many empty begun tested done h =
+    → all ≡ node (Form While) p (n + 1) ∷ (flat_one (true_form p) ++ flat (forms_in (with_opened s o) body))
+    → ((e : Expansion) → all ≡ flat e → 1 ≡ count_of e → Wrote old new (flat (blocked s.depth p e)))
+    → Wrote old new (flat_one (loop_form s.depth p (body_in (inside s (Block 0)) 0 args)))
+loop_written s o p name n args body all old new opens nil begins many done h =
     let t : Scope = with_opened s o in
     let fs : Expansion = forms_in t body in
     let same : fs ≡ body_in (inside s (Block 0)) 0 args =
     ap (forms_in t) begins ∙ sym (body-forms t 0 args) ∙ ap (λ u. body_in u 0 args) (opens ∙ ap (λ m. inside s (Block m)) nil) in
     let count : n + 1 ≡ suc (count_of fs) = add-one n ∙ ap suc (many ∙ sym (count-forms t body)) in
-    let nodes : all ≡ flat_one (form While p (in_front (true_form p) fs)) =
-    done ∙ ap (λ ns. ns ++ flat fs) (tested ∙ ap (λ ns. ns ++ flat_one (true_form p)) (begun ∙ ap (λ ns. ns ++ node (Form While) p (n + 1) ∷ []) empty))
-    ∙ ap (λ m. node (Form While) p m ∷ (flat_one (true_form p) ++ flat fs)) count in
-    blocked_one r s.depth p (form While p (in_front (true_form p) (body_in (inside s (Block 0)) 0 args))) all old new
-    (nodes ∙ ap (λ e. flat_one (form While p (in_front (true_form p) e))) same) h
+    blocked_one s.depth p (form While p (in_front (true_form p) (body_in (inside s (Block 0)) 0 args))) all old new
+    (done ∙ ap (λ m. node (Form While) p m ∷ (flat_one (true_form p) ++ flat fs)) count ∙ ap (λ e. flat_one (form While p (in_front (true_form p) e))) same) h
 
 -- the second in the list that is the first
 second-within : (t : Scope) (p : ℕ) (args items rest : Data) → items ≡ items_first args → rest ≡ behind 1 items
@@ -61,26 +60,25 @@ second-within t p args items rest is behind =
     ∙ ap (λ d. second p (forms_in t d)) is ∙ sym (ap (second p) (within-items t (From 0) args ∙ roles-from_0 t (items_first args)))
 
 -- a `let` of three forms
-three_nodes : (p : ℕ) (a b c : Single) (one two three' all : List ExpandedNode) → one ≡ node (Form Let) p 3 ∷ [] → two ≡ one ++ flat_one a → three' ≡ two ++ flat_one b
-    → all ≡ three' ++ flat_one c → all ≡ flat_one (form Let p (in_front a (in_front b (only c))))
-three_nodes p a b c one two three' all h i j k =
-    k ∙ ap (λ ns. ns ++ flat_one c) (j ∙ ap (λ ns. ns ++ flat_one b) (i ∙ ap (λ ns. ns ++ flat_one a) h)) ∙ rw (append_assoc, append-nil) refl
+three_nodes : (p : ℕ) (a b c : Single)
+    → ((node (Form Let) p 3 ∷ flat_one a) ++ flat_one b) ++ flat_one c ≡ flat_one (form Let p (in_front a (in_front b (only c))))
+three_nodes p a b c = rw (append_assoc, append-nil) refl
 
 -- a `dotimes`
-pub dotimes_written : {A E : Type 0} (r : Result A E) (s : Scope) (o : Opened) (p name x : ℕ) (args items rest : Data) (body : Expansion) (result : Option Single) (none one two three' all old new : List ExpandedNode)
+pub dotimes_written : (s : Scope) (o : Opened) (p name x : ℕ) (args items rest : Data) (body : Expansion) (result : Option Single) (all : List ExpandedNode) (old new : Option (List ExpandedNode))
     → with_opened s o ≡ inside s (Block name) → name ≡ 0 → items ≡ items_first args → rest ≡ behind 1 items
-    → none ≡ [] → one ≡ none ++ node (Form Let) p 3 ∷ [] → two ≡ one ++ flat_one (first p (forms_in (with_opened s o) rest)) → three' ≡ two ++ flat_one (number_form (pos 0) p)
-    → all ≡ three' ++ flat_one (turns_form s p x s.depth body result)
-    → OnOk r ((e : Expansion) → all ≡ flat e → 1 ≡ count_of e → new ≡ old ++ flat (blocked s.depth p e))
-    → OnOk r (new ≡ old ++ flat_one (dotimes_form s p x s.depth (second p (within_first (inside s (Block 0)) (From 0) args)) body result))
-dotimes_written r s o p name x args items rest body result none one two three' all old new opens nil is behind empty begun headed numbered done h =
+    → all ≡ ((node (Form Let) p 3 ∷ flat_one (first p (forms_in (with_opened s o) rest))) ++ flat_one (number_form (pos 0) p)) ++ flat_one (turns_form s p x s.depth body result)
+    → ((e : Expansion) → all ≡ flat e → 1 ≡ count_of e → Wrote old new (flat (blocked s.depth p e)))
+    → Wrote old new (flat_one (dotimes_form s p x s.depth (second p (within_first (inside s (Block 0)) (From 0) args)) body result))
+dotimes_written s o p name x args items rest body result all old new opens nil is behind done h =
     let t : Scope = with_opened s o in
     let turns : Single = second p (within_first (inside s (Block 0)) (From 0) args) in
     let same : first p (forms_in t rest) ≡ turns =
     second-within t p args items rest is behind ∙ ap (λ u. second p (within_first u (From 0) args)) (opens ∙ ap (λ m. inside s (Block m)) nil) in
-    let under : Expansion = in_front turns (in_front (number_form (pos 0) p) (only (turns_form s p x s.depth body result))) in
-    blocked_one r s.depth p (form Let p under) all old new
-    (three_nodes p turns (number_form (pos 0) p) (turns_form s p x s.depth body result) one two three' all (begun ∙ ap (λ ns. ns ++ node (Form Let) p 3 ∷ []) empty) (headed ∙ ap (λ a. one ++ flat_one a) same) numbered done) h
+    let zero : Single = number_form (pos 0) p in
+    let inner : Single = turns_form s p x s.depth body result in
+    blocked_one s.depth p (form Let p (in_front turns (in_front zero (only inner)))) all old new
+    (done ∙ ap (λ a. ((node (Form Let) p 3 ∷ flat_one a) ++ flat_one zero) ++ flat_one inner) same ∙ three_nodes p turns zero inner) h
 
 -- what a `dotimes` does behind its number of turns, by the numbers of its variables
 abbrev turns_of : ℕ → (limit done : ℕ) → CoreKind → Expansion → Option Single → Single
@@ -121,14 +119,14 @@ turns-same s p x limit done kind body b result r h i j k l =
     ∙ ap (λ n. flat_one (turns_of p (suc s.depth) last bound b n)) l
 
 -- the turns of a `dotimes`
-pub turns_written : {A E : Type 0} (r : Result A E) (s : Scope) (o o' : Opened) (p x limit done k : ℕ) (kind : CoreKind) (args rest body : Data) (old a b c d e f g new : List ExpandedNode)
+pub turns_written : (s : Scope) (o o' : Opened) (p x limit done k : ℕ) (kind : CoreKind) (args rest body : Data) (old a b c d e f g new : List ExpandedNode)
     → with_opened s o ≡ in_dotimes s → limit ≡ s.depth + 1 → done ≡ limit + 1 → kind ≡ bind_kind s o.depth x 0 → with_opened s o' ≡ opened_by (with_opened s o) x
     → rest ≡ behind 1 args → body ≡ body_of s.names rest → k ≡ data_in body
     → a ≡ old ++ node (Form (BindLocal limit 1)) p 1 ∷ [] → b ≡ a ++ node (Form (BindLocal done 0)) p 2 ∷ [] → c ≡ b ++ node (Form While) p 3 ∷ []
     → d ≡ c ++ flat_one (more_form p limit done) → e ≡ d ++ turn_head p done kind k → f ≡ e ++ flat (forms_in (with_opened s o') body) → g ≡ f ++ flat_one (step_form p done)
-    → OnOk r (new ≡ g ++ flat_one (result_form p done kind (result_of (within_first (with_opened s o') (From 0) args))))
-    → OnOk r (new ≡ old ++ flat_one (turns_form s p x s.depth (body_in (in_turn s x) 1 args) (result_of (within_first (in_turn s x) (From 0) args))))
-turns_written r s o o' p x limit done k kind args rest body old a b c d e f g new opens one two same inner behind begins many ha hb hc hd he hf hg h =
+    → new ≡ g ++ flat_one (result_form p done kind (result_of (within_first (with_opened s o') (From 0) args)))
+    → new ≡ old ++ flat_one (turns_form s p x s.depth (body_in (in_turn s x) 1 args) (result_of (within_first (in_turn s x) (From 0) args)))
+turns_written s o o' p x limit done k kind args rest body old a b c d e f g new opens one two same inner behind begins many ha hb hc hd he hf hg h =
     let u : Scope = with_opened s o' in
     let fs : Expansion = forms_in u body in
     let now : u ≡ in_turn s x = inner ∙ ap (λ t. opened_by t x) opens in
@@ -140,6 +138,6 @@ turns_written r s o o' p x limit done k kind args rest body old a b c d e f g ne
     let kind' : kind ≡ bind_kind s (suc (suc (suc s.depth))) x 0 = same ∙ ap (λ t. bind_kind s t.depth x 0) opens in
     let front : g ≡ old ++ turns_front p limit done k kind (flat fs) =
     two_steps old a g _ _ ha (two_steps a b g _ _ hb (two_steps b c g _ _ hc (two_steps c d g _ _ hd (two_steps d e g _ _ he (two_steps e f g _ _ hf hg))))) in
-    last_step r old g new (turns_front p limit done k kind (flat fs)) (flat_one (result_form p done kind result)) _ front
+    last_step old g new (turns_front p limit done k kind (flat fs)) (flat_one (result_form p done kind result)) _ front
     (flat-turns p limit done k kind fs result (many ∙ sym (count-forms u body))
     ∙ turns-same s p x limit done kind fs _ result _ limit' done' kind' under (ap (λ t. result_of (within_first t (From 0) args)) now)) h

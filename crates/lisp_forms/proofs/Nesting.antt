@@ -1,6 +1,8 @@
 -- A `let*`: one `let` in another.
-use Rattle.std.proofs.Common.{◌≡◌, ◌≢◌, ℕ, ◌+◌, ◌<◌, ◌≤◌, List, [], ◌∷◌, ◌++◌, Option, Some, None, OnOk, Result, drop, get_or, length, refl, ap, sym, ◌∙◌, arith, append_assoc, append-nil}
+use Rattle.std.proofs.Common.{◌≡◌, ◌≢◌, ℕ, ◌+◌, ◌<◌, ◌≤◌, List, [], ◌∷◌, ◌++◌, Option, Some, None, drop, get_or, length, refl, ap, sym, ◌∙◌, arith, append_assoc, append-nil}
 use Rattle.std.proofs.lemmas.List.{drop_all}
+use Rattle.lisp_base.specs.Writing.{Wrote}
+use Rattle.lisp_base.proofs.Writing.{Writes, writes_done, writes_next, wrote_both, wrote_same}
 use Rattle.lisp_base.specs.Forest.{count_of}
 use Rattle.lisp_program.specs.declared.form.CoreKind.{CoreKind}
 use Rattle.lisp_program.specs.declared.form.CoreKind.TheVariants.{Let}
@@ -25,7 +27,7 @@ use Rattle.lisp_forms.specs.Rows.{bind_form, bind_kind, let_star_form, nested}
 use Rattle.lisp_forms.specs.Trees.{Expansion, Single, both, first, form, in_front, nil_form, only, others}
 use Rattle.lisp_forms.specs.Written.{turn, turn_nodes, turn_parts}
 use Rattle.lisp_forms.proofs.Letting.{body-opened}
-use Rattle.lisp_forms.proofs.Parts.{count-forms, last_step, two_steps}
+use Rattle.lisp_forms.proofs.Parts.{count-forms}
 
 -- a variable and others
 pub record Split (a : Option ℕ) (b : Option (List ℕ)) (xs : List ℕ) : Type 0 where
@@ -140,12 +142,12 @@ flat-star s p [] values body some = absurd (some refl)
 flat-star s p (x ∷ xs) values body some = sym (append-nil (flat_one (let_star_form s p (x ∷ xs) values body)))
 
 -- a `let*` with variables
-pub let_star_of_some : {A E : Type 0} (r : Result A E) (s : Scope) (o : Opened) (p k : ℕ) (args rest body bindings : Data) (xs : List ℕ) (old mid new : List ExpandedNode)
+pub let_star_of_some : (s : Scope) (o : Opened) (p k : ℕ) (args rest body bindings : Data) (xs : List ℕ) (old mid new : Option (List ExpandedNode))
     → length xs ≢ 0 → xs ≡ let_variables args → with_opened s o ≡ opened s xs → rest ≡ behind 1 args → body ≡ body_of s.names rest → k ≡ data_in body
-    → bindings ≡ items_first args → (bound_in bindings ≡ Some xs → mid ≡ old ++ turn_nodes s p k bindings)
-    → OnOk r (new ≡ mid ++ flat (forms_in (with_opened s o) body))
-    → OnOk r (new ≡ old ++ flat_one (let_star_form s p (let_variables args) (turn_first s args) (body_in (opened s (let_variables args)) 1 args)))
-let_star_of_some r s o p k args rest body bindings xs old mid new some is opens behind begins few first turned h =
+    → bindings ≡ items_first args → (bound_in bindings ≡ Some xs → Wrote old mid (turn_nodes s p k bindings))
+    → Wrote mid new (flat (forms_in (with_opened s o) body))
+    → Wrote old new (flat_one (let_star_form s p (let_variables args) (turn_first s args) (body_in (opened s (let_variables args)) 1 args)))
+let_star_of_some s o p k args rest body bindings xs old mid new some is opens behind begins few first turned h =
     let t : Scope = with_opened s o in
     let fs : Expansion = forms_in t body in
     let b : Expansion = body_in (opened s (let_variables args)) 1 args in
@@ -156,7 +158,7 @@ let_star_of_some r s o p k args rest body bindings xs old mid new some is opens 
     ap (λ n. turn_nodes s p n bindings ++ flat fs) (few ∙ sym (count-forms t body)) ∙ sym (flat-nested s p xs bindings fs bound)
     ∙ ap (λ v. flat (nested s p xs v fs)) values ∙ ap (λ e. flat (nested s p xs (turn_first s args) e)) (sym under)
     ∙ sym (flat-star s p xs (turn_first s args) b some) ∙ ap (λ ys. flat_one (let_star_form s p ys (turn_first s args) b)) is in
-    last_step r old mid new (turn_nodes s p k bindings) (flat fs) _ (turned bound) all h
+    wrote_same old new (turn_nodes s p k bindings ++ flat fs) _ (wrote_both old mid new (turn_nodes s p k bindings) (flat fs) (turned bound) h) all
 
 -- the others are no larger
 pub smaller_others : (f : First) (d left : Data) → left ≡ with_first f d → size_of d ≤ size_of left
@@ -177,23 +179,26 @@ pub others_bound : (x : ℕ) (xs : List ℕ) (a : Option ℕ) (b : Option (List 
 others_bound x xs a b h = let rest : b ≡ Some h.ys = h.has_others in let all : x ∷ xs ≡ h.x ∷ h.ys = h.all in cc
 
 -- one `let` more is written
-pub turn_step : (u w : Scope) (p body parts x : ℕ) (kind : CoreKind) (first : First) (left others : Data) (now a b new all : List ExpandedNode)
+pub turn_step : (u w : Scope) (p body parts x : ℕ) (kind : CoreKind) (first : First) (left others : Data) (old now a b new : Option (List ExpandedNode)) (all : List ExpandedNode)
     → left ≡ with_first first others → bound_by first ≡ Some x → w ≡ opened_by u x → kind ≡ bind_kind u u.depth x 0 → parts ≡ turn_parts others body
-    → a ≡ now ++ node (Form Let) p 2 ∷ [] → b ≡ a ++ flat_one (bound_value u first) → new ≡ b ++ node (Form kind) p parts ∷ []
-    → now ++ turn_nodes u p body left ≡ all → new ++ turn_nodes w p body others ≡ all
-turn_step u w p body parts x kind first left others now a b new all e bound opens same under begun valued pushed so_far =
+    → Wrote now a (node (Form Let) p 2 ∷ []) → Wrote a b (flat_one (bound_value u first)) → Wrote b new (node (Form kind) p parts ∷ [])
+    → Writes old now (turn_nodes u p body left) all → Writes old new (turn_nodes w p body others) all
+turn_step u w p body parts x kind first left others old now a b new all e bound opens same under begun valued pushed so_far =
     let value : Single = bound_value u first in
+    let begin : List ExpandedNode = node (Form Let) p 2 ∷ [] in
+    let bind : List ExpandedNode = node (Form kind) p parts ∷ [] in
     let last : List ExpandedNode = turn_nodes w p body others in
-    let one : List ExpandedNode = (node (Form Let) p 2 ∷ []) ++ (flat_one value ++ (node (Form kind) p parts ∷ [])) in
-    let written : new ≡ now ++ one = two_steps now a new _ _ begun (two_steps a b new _ _ valued pushed) in
+    let one : List ExpandedNode = (begin ++ flat_one value) ++ bind in
     let is : one ≡ turn u p (turn_parts others body) (bound_by first) value =
-    ap (λ g. node (Form Let) p 2 ∷ (flat_one value ++ (node (Form g) p parts ∷ []))) same
+    append_assoc begin (flat_one value) bind
+    ∙ ap (λ g. node (Form Let) p 2 ∷ (flat_one value ++ (node (Form g) p parts ∷ []))) same
     ∙ ap (λ n. turn u p n (Some x) value) under ∙ sym (ap (λ v. turn u p (turn_parts others body) v value) bound) in
     let behind : last ≡ turn_nodes (behind_variable u (bound_by first)) p body others =
     ap (λ t. turn_nodes t p body others) opens ∙ sym (ap (λ v. turn_nodes (behind_variable u v) p body others) bound) in
-    ap (λ ns. ns ++ last) written ∙ append_assoc now one last
-    ∙ ap (λ ns. now ++ (ns ++ last)) is ∙ ap (λ ns. now ++ (turn u p (turn_parts others body) (bound_by first) value ++ ns)) behind
-    ∙ sym (ap (λ ns. now ++ ns) (ap (turn_nodes u p body) e ∙ nodes-first u p body first others)) ∙ so_far
+    writes_next old now new one (turn_nodes u p body left) last all so_far
+    (wrote_both now b new (begin ++ flat_one value) bind (wrote_both now a b begin (flat_one value) begun valued) pushed)
+    (ap (turn_nodes u p body) e ∙ nodes-first u p body first others
+    ∙ ap (λ ns. ns ++ turn_nodes (behind_variable u (bound_by first)) p body others) (sym is) ∙ ap (λ ns. one ++ ns) (sym behind))
 
 -- behind the last variable there is no binding
 none-left : (d : Data) → bound_in d ≡ Some [] → d ≡ NoData
@@ -205,8 +210,7 @@ none-left (Listed p under beside) h =
     let b : Split (bound_in_list under) (bound_in beside) [] = split (bound_in_list under) (bound_in beside) [] h in
     let none : [] ≡ b.x ∷ b.ys = b.all in cc
 
-pub turns_done : (u : Scope) (p body i : ℕ) (xs : List ℕ) (left : Data) (now all : List ExpandedNode) → length xs ≤ i → bound_in left ≡ Some (drop i xs)
-    → now ++ turn_nodes u p body left ≡ all → now ≡ all
-turns_done u p body i xs left now all h bound so_far =
-    let none : left ≡ NoData = none-left left (bound ∙ ap Some (drop_all i xs h)) in
-    sym (append-nil now) ∙ sym (ap (λ d. now ++ turn_nodes u p body d) none) ∙ so_far
+pub turns_done : (u : Scope) (p body i : ℕ) (xs : List ℕ) (left : Data) (old now : Option (List ExpandedNode)) (all : List ExpandedNode) → length xs ≤ i → bound_in left ≡ Some (drop i xs)
+    → Writes old now (turn_nodes u p body left) all → Wrote old now all
+turns_done u p body i xs left old now all h bound so_far =
+    writes_done old now (turn_nodes u p body left) all so_far (ap (λ d. turn_nodes u p body d) (none-left left (bound ∙ ap Some (drop_all i xs h))))

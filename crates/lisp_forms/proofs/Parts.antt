@@ -1,6 +1,6 @@
 -- The parts of data as forms, as the code reads them.
 use Rattle.std.proofs.lemmas.Bool.Decides.{nat_tests}
-use Rattle.std.proofs.Common.{◌≡◌, ℕ, zero, suc, ◌+◌, ◌≤◌, nat_lt, not, List, ◌++◌, Bool, true, false, cond, OnOk, Result, Ok, Err, refl, ap, ◌∙◌, arith, append_assoc}
+use Rattle.std.proofs.Common.{◌≡◌, ℕ, zero, suc, ◌+◌, ◌≤◌, nat_lt, not, List, ◌++◌, Bool, true, false, cond, true≢false, OnOk, Result, Ok, Err, is_err, refl, ap, sym, ◌∙◌, arith, append_assoc}
 use Rattle.lisp_base.specs.Forest.{NoTrees, Tree, count_of, joined}
 use Rattle.lisp_data.specs.declared.items.First.{First}
 use Rattle.lisp_data.specs.declared.items.First.TheVariants.{Leaf as LeafFirst, List as ListFirst}
@@ -131,11 +131,10 @@ pub two_steps : (old mid new x y : List ExpandedNode) → mid ≡ old ++ x → n
 two_steps old mid new x y a b = b ∙ ap (λ ns. ns ++ y) a ∙ append_assoc old x y
 
 -- the last step, where all that is written is this
-pub last_step : {A E : Type 0} (r : Result A E) (old mid new x y all : List ExpandedNode) → mid ≡ old ++ x → x ++ y ≡ all → OnOk r (new ≡ mid ++ y) → OnOk r (new ≡ old ++ all)
-last_step (Ok v) old mid new x y all a e h = two_steps old mid new x y a h ∙ ap (λ ns. old ++ ns) e
-last_step (Err v) old mid new x y all a e h = h
+pub last_step : (old mid new x y all : List ExpandedNode) → mid ≡ old ++ x → x ++ y ≡ all → new ≡ mid ++ y → new ≡ old ++ all
+last_step old mid new x y all a e h = two_steps old mid new x y a h ∙ ap (λ ns. old ++ ns) e
 
--- the same, where nothing is written before
-pub only_step : {A E : Type 0} (r : Result A E) (old new x all : List ExpandedNode) → x ≡ all → OnOk r (new ≡ old ++ x) → OnOk r (new ≡ old ++ all)
-only_step (Ok v) old new x all e h = h ∙ ap (λ ns. old ++ ns) e
-only_step (Err v) old new x all e h = h
+-- what holds of an answer that is no error
+pub where_ok : {A E P : Type 0} (r : Result A E) (t : Bool) → t ≡ is_err r → t ≡ false → OnOk r P → P
+where_ok (Ok v) t is none h = h
+where_ok (Err e) t is none h = absurd (true≢false (sym is ∙ none))

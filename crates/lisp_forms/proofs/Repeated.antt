@@ -1,5 +1,7 @@
 -- The same node so many times.
-use Rattle.std.proofs.Common.{◌≡◌, ℕ, zero, suc, ◌+◌, List, [], ◌∷◌, ◌++◌, refl, ap, append_assoc, add-one}
+use Rattle.std.proofs.Common.{◌≡◌, ℕ, zero, suc, ◌+◌, Option, List, [], ◌∷◌, ◌++◌, refl, ap, sym, ◌∙◌, add-one}
+use Rattle.lisp_base.specs.Writing.{Wrote}
+use Rattle.lisp_base.proofs.Writing.{wrote_both, wrote_same}
 use Rattle.form_shapes.specs.declared.expanded.ExpandedNode.{ExpandedNode}
 use Rattle.lisp_forms.specs.Flat.{repeated}
 
@@ -9,7 +11,8 @@ repeated_last zero n = refl
 repeated_last (suc k) n = ap (λ ns. n ∷ ns) (repeated_last k n)
 
 -- one more
-pub repeated_more : (k : ℕ) (n : ExpandedNode) (old now new : List ExpandedNode) → now ≡ old ++ repeated k n → new ≡ now ++ n ∷ []
-    → new ≡ old ++ repeated (k + 1) n
+pub repeated_more : (k : ℕ) (n : ExpandedNode) (old now new : Option (List ExpandedNode)) → Wrote old now (repeated k n) → Wrote now new (n ∷ [])
+    → Wrote old new (repeated (k + 1) n)
 repeated_more k n old now new so_far pushed =
-    rw (add-one k, repeated_last k n, pushed, so_far) (append_assoc old (repeated k n) (n ∷ []))
+    wrote_same old new (repeated k n ++ n ∷ []) (repeated (k + 1) n) (wrote_both old now new (repeated k n) (n ∷ []) so_far pushed)
+    (sym (repeated_last k n) ∙ ap (λ m. repeated m n) (sym (add-one k)))

@@ -1,6 +1,8 @@
 -- Forms written flat, of which those in functions are skipped.
-use Rattle.std.proofs.Common.{◌≡◌, ℕ, suc, ◌+◌, ◌<◌, ◌≤◌, List, [], ◌∷◌, ◌++◌, Bool, true, false, ◌||◌, if◌then◌else◌, length, get_or, drop, refl, ap, sym, ◌∙◌, arith, append_assoc, append-nil, add-one, drop-cons}
+use Rattle.std.proofs.Common.{◌≡◌, ℕ, suc, ◌+◌, ◌<◌, ◌≤◌, Option, List, [], ◌∷◌, ◌++◌, Bool, true, false, ◌||◌, if◌then◌else◌, length, get_or, drop, refl, ap, sym, ◌∙◌, arith, append_assoc, append-nil, add-one, drop-cons}
 use Rattle.std.proofs.Math.ListN.{drop_of_length-le}
+use Rattle.lisp_base.specs.Writing.{Wrote}
+use Rattle.lisp_base.proofs.Writing.{Writes, wrote_same, writes_done, writes_next}
 use Rattle.lisp_base.specs.Forest.{NoTrees, Tree, count_of}
 use Rattle.lisp_program.specs.declared.form.CoreKind.TheVariants.{Block}
 use Rattle.form_shapes.specs.declared.expanded.Expanded.{Expanded}
@@ -136,15 +138,12 @@ pub lowered-flat : (number : ℕ) (e : Expansion) (ns : List ExpandedNode) → n
 lowered-flat number e ns h = ap (lowered_in number 0) (h ∙ sym (append-nil (flat e))) ∙ lowered-all number e [] ∙ append-nil (flat (lowered number e))
 
 -- one more is written
-pub lowered_next : (number skipped behind : ℕ) (ns : List ExpandedNode) (i : ℕ) (n : ExpandedNode) (now new all : List ExpandedNode) → i < length ns → n ≡ get_or ns i n
-    → behind ≡ skipped_behind skipped n → new ≡ now ++ lowered_node number skipped n ∷ [] → now ++ lowered_in number skipped (drop i ns) ≡ all
-    → new ++ lowered_in number behind (drop (i + 1) ns) ≡ all
-lowered_next number skipped behind ns i n now new all h is next pushed so_far =
-    ap (λ m. new ++ lowered_in number m (drop (i + 1) ns)) next
-    ∙ ap (λ ms. ms ++ lowered_in number (skipped_behind skipped n) (drop (i + 1) ns)) pushed
-    ∙ append_assoc now (lowered_node number skipped n ∷ []) (lowered_in number (skipped_behind skipped n) (drop (i + 1) ns))
-    ∙ sym (ap (λ ms. now ++ lowered_in number skipped ms) (from ns i n h is))
-    ∙ so_far
+pub lowered_next : (number skipped behind : ℕ) (ns : List ExpandedNode) (i : ℕ) (n : ExpandedNode) (old now new : Option (List ExpandedNode)) (all : List ExpandedNode)
+    → i < length ns → n ≡ get_or ns i n → behind ≡ skipped_behind skipped n → Wrote now new (lowered_node number skipped n ∷ [])
+    → Writes old now (lowered_in number skipped (drop i ns)) all → Writes old new (lowered_in number behind (drop (i + 1) ns)) all
+lowered_next number skipped behind ns i n old now new all h is next pushed so_far =
+    writes_next old now new (lowered_node number skipped n ∷ []) (lowered_in number skipped (drop i ns)) (lowered_in number behind (drop (i + 1) ns)) all so_far pushed
+    (ap (λ ms. lowered_in number skipped ms) (from ns i n h is) ∙ ap (λ m. lowered_node number skipped n ∷ lowered_in number m (drop (i + 1) ns)) (sym next))
 
 -- a body is one form in its block, and else as many as before
 pub count_blocked : (number p : ℕ) (e : Expansion) (t : Bool) (count : ℕ) → t ≡ returns_to number e → t ≡ false → count ≡ count_of e → count ≡ count_of (blocked number p e)
@@ -157,7 +156,9 @@ pub found_end : (number skipped i : ℕ) (ns : List ExpandedNode) (e : Expansion
 found_end number skipped i ns e h so_far is =
     sym (ap (found_in number skipped) (drop_of_length-le ns {i = i} h)) ∙ so_far ∙ found-flat number e ns is
 
-pub lowered_end : (number skipped i : ℕ) (ns : List ExpandedNode) (e : Expansion) (now old : List ExpandedNode) → length ns ≤ i
-    → now ++ lowered_in number skipped (drop i ns) ≡ old ++ lowered_in number 0 ns → ns ≡ flat e → now ≡ old ++ flat (lowered number e)
-lowered_end number skipped i ns e now old h so_far is =
-    sym (append-nil now) ∙ sym (ap (λ ms. now ++ lowered_in number skipped ms) (drop_of_length-le ns {i = i} h)) ∙ so_far ∙ ap (λ ms. old ++ ms) (lowered-flat number e ns is)
+pub lowered_end : (number skipped i : ℕ) (ns : List ExpandedNode) (e : Expansion) (old now : Option (List ExpandedNode)) → length ns ≤ i
+    → Writes old now (lowered_in number skipped (drop i ns)) (lowered_in number 0 ns) → ns ≡ flat e → Wrote old now (flat (lowered number e))
+lowered_end number skipped i ns e old now h so_far is =
+    wrote_same old now (lowered_in number 0 ns) (flat (lowered number e))
+    (writes_done old now (lowered_in number skipped (drop i ns)) (lowered_in number 0 ns) so_far (ap (λ ms. lowered_in number skipped ms) (drop_of_length-le ns {i = i} h)))
+    (lowered-flat number e ns is)

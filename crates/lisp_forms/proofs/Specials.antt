@@ -1,5 +1,7 @@
 -- Bindings of special parameters, one by one.
-use Rattle.std.proofs.Common.{◌≡◌, ℕ, suc, ◌+◌, ◌<◌, List, [], ◌∷◌, ◌++◌, Bool, true, false, if◌then◌else◌, length, get_or, drop, refl, ap, sym, ◌∙◌, append_assoc, add-one, drop-cons}
+use Rattle.std.proofs.Common.{◌≡◌, ℕ, suc, ◌+◌, ◌<◌, Option, List, [], ◌∷◌, ◌++◌, Bool, true, false, if◌then◌else◌, length, get_or, drop, refl, ap, sym, ◌∙◌, add-one, drop-cons}
+use Rattle.lisp_base.specs.Writing.{Wrote}
+use Rattle.lisp_base.proofs.Writing.{Writes, writes_next}
 use Rattle.lisp_program.specs.declared.form.CoreKind.TheVariants.{BindSpecial, Let, Local}
 use Rattle.form_shapes.specs.declared.expanded.Expanded.TheVariants.{Form}
 use Rattle.form_shapes.specs.declared.expanded.ExpandedNode.{ExpandedNode}
@@ -19,16 +21,13 @@ special-first specials p body i x xs =
     bound-first (has specials x) (node (Form Let) p 2) (node (Form (Local i)) p 0) (node (Form (BindSpecial x 0)) p (special_parts specials body xs)) (special_nodes specials p body (suc i) xs)
 
 -- one more is written
-pub special_next : (specials xs ys : List ℕ) (p body n i x : ℕ) (now new all : List ExpandedNode)
-    → i < length xs → x ≡ get_or xs i x → ys ≡ drop (i + 1) xs → new ≡ now ++ special_node specials p body n x ys
-    → now ++ special_nodes specials p body n (drop i xs) ≡ all → new ++ special_nodes specials p body (n + 1) (drop (i + 1) xs) ≡ all
-special_next specials xs ys p body n i x now new all h is others pushed so_far =
+pub special_next : (specials xs ys : List ℕ) (p body n i x : ℕ) (old now new : Option (List ExpandedNode)) (all : List ExpandedNode)
+    → i < length xs → x ≡ get_or xs i x → ys ≡ drop (i + 1) xs → Wrote now new (special_node specials p body n x ys)
+    → Writes old now (special_nodes specials p body n (drop i xs)) all → Writes old new (special_nodes specials p body (n + 1) (drop (i + 1) xs)) all
+special_next specials xs ys p body n i x old now new all h is others pushed so_far =
     let rest : List ℕ = drop (i + 1) xs in
     let split : drop i xs ≡ x ∷ rest = drop-cons xs i x h ∙ ap (λ y. y ∷ drop (suc i) xs) (sym is) ∙ ap (λ k. x ∷ drop k xs) (sym (add-one i)) in
-    ap (λ ns. ns ++ special_nodes specials p body (n + 1) rest) pushed
-    ∙ append_assoc now (special_node specials p body n x ys) (special_nodes specials p body (n + 1) rest)
-    ∙ ap (λ zs. now ++ (special_node specials p body n x zs ++ special_nodes specials p body (n + 1) rest)) others
-    ∙ ap (λ k. now ++ (special_node specials p body n x rest ++ special_nodes specials p body k rest)) (add-one n)
-    ∙ ap (λ ns. now ++ ns) (special-first specials p body n x rest)
-    ∙ sym (ap (λ zs. now ++ special_nodes specials p body n zs) split)
-    ∙ so_far
+    writes_next old now new (special_node specials p body n x ys) (special_nodes specials p body n (drop i xs)) (special_nodes specials p body (n + 1) rest) all so_far pushed
+    (ap (λ zs. special_nodes specials p body n zs) split ∙ sym (special-first specials p body n x rest)
+    ∙ ap (λ zs. special_node specials p body n x zs ++ special_nodes specials p body (suc n) rest) (sym others)
+    ∙ ap (λ k. special_node specials p body n x ys ++ special_nodes specials p body k rest) (sym (add-one n)))

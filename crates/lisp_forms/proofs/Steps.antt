@@ -1,5 +1,7 @@
 -- What is written for rows of the table of forms, in several steps.
-use Rattle.std.proofs.Common.{◌≡◌, ◌≢◌, ℕ, zero, suc, ◌+◌, ◌-◌, List, [], ◌∷◌, ◌++◌, Result, Ok, Err, OnOk, refl, ap, sym, ◌∙◌, arith, add-one, append_assoc, append-nil}
+use Rattle.std.proofs.Common.{◌≡◌, ◌≢◌, ℕ, zero, suc, ◌+◌, ◌-◌, Option, List, [], ◌∷◌, ◌++◌, refl, ap, sym, ◌∙◌, arith, add-one, append_assoc, append-nil}
+use Rattle.lisp_base.specs.Writing.{Wrote}
+use Rattle.lisp_base.proofs.Writing.{Writes, wrote_both, wrote_same, wrote_none, writes_done, writes_next}
 use Rattle.lisp_base.specs.Forest.{NoTrees, Tree, count_of, joined}
 use Rattle.lisp_program.specs.declared.form.CoreKind.{CoreKind}
 use Rattle.lisp_program.specs.declared.form.CoreKind.TheVariants as k
@@ -39,57 +41,56 @@ data-with_first (LeafFirst l p) d = refl
 data-with_first (ListFirst p under) d = refl
 
 -- a form, and those under it
-pub over : {A E : Type 0} (r : Result A E) (kind : CoreKind) (p n : ℕ) (fs : Expansion) (old mid new : List ExpandedNode)
-    → n ≡ count_of fs → mid ≡ old ++ node (Form kind) p n ∷ [] → OnOk r (new ≡ mid ++ flat fs) → OnOk r (new ≡ old ++ flat_one (form kind p fs))
-over r kind p n fs old mid new many begun h =
-    last_step r old mid new (node (Form kind) p n ∷ []) (flat fs) (flat_one (form kind p fs)) begun (ap (λ m. node (Form kind) p m ∷ flat fs) many) h
+pub over : (kind : CoreKind) (p n : ℕ) (fs : Expansion) (old mid new : List ExpandedNode)
+    → n ≡ count_of fs → mid ≡ old ++ node (Form kind) p n ∷ [] → new ≡ mid ++ flat fs → new ≡ old ++ flat_one (form kind p fs)
+over kind p n fs old mid new many begun h =
+    last_step old mid new (node (Form kind) p n ∷ []) (flat fs) (flat_one (form kind p fs)) begun (ap (λ m. node (Form kind) p m ∷ flat fs) many) h
 
 -- the same with NIL behind them
-pub over_nil : {A E : Type 0} (r : Result A E) (kind : CoreKind) (p n : ℕ) (fs : Expansion) (old mid mid2 new : List ExpandedNode)
-    → n ≡ count_of fs → mid ≡ old ++ node (Form kind) p (n + 1) ∷ [] → mid2 ≡ mid ++ flat fs → OnOk r (new ≡ mid2 ++ flat_one (nil_form p))
-    → OnOk r (new ≡ old ++ flat_one (form kind p (joined fs (only (nil_form p)))))
-over_nil r kind p n fs old mid mid2 new many begun forms h =
+pub over_nil : (kind : CoreKind) (p n : ℕ) (fs : Expansion) (old mid mid2 new : List ExpandedNode)
+    → n ≡ count_of fs → mid ≡ old ++ node (Form kind) p (n + 1) ∷ [] → mid2 ≡ mid ++ flat fs → new ≡ mid2 ++ flat_one (nil_form p)
+    → new ≡ old ++ flat_one (form kind p (joined fs (only (nil_form p))))
+over_nil kind p n fs old mid mid2 new many begun forms h =
     let begin : List ExpandedNode = node (Form kind) p (n + 1) ∷ [] in
     let count : count_of (joined fs (only (nil_form p))) ≡ n + 1 = count-joined fs (only (nil_form p)) ∙ omega (arith, many) in
     let all : (begin ++ flat fs) ++ flat_one (nil_form p) ≡ flat_one (form kind p (joined fs (only (nil_form p)))) =
     ap (λ ns. node (Form kind) p (n + 1) ∷ ns) (sym (flat-joined fs (only (nil_form p)))) ∙ ap (λ m. node (Form kind) p m ∷ flat (joined fs (only (nil_form p)))) (sym count) in
-    last_step r old mid2 new (begin ++ flat fs) (flat_one (nil_form p)) _ (two_steps old mid mid2 begin (flat fs) begun forms) all h
+    last_step old mid2 new (begin ++ flat fs) (flat_one (nil_form p)) _ (two_steps old mid mid2 begin (flat fs) begun forms) all h
 
 -- an `if` of three forms
-pub if_steps : {A E : Type 0} (r : Result A E) (p : ℕ) (a b c : Single) (old m1 m2 m3 new : List ExpandedNode)
-    → m1 ≡ old ++ node (Form k.If) p 3 ∷ [] → m2 ≡ m1 ++ flat_one a → m3 ≡ m2 ++ flat_one b → OnOk r (new ≡ m3 ++ flat_one c)
-    → OnOk r (new ≡ old ++ flat_one (Rows.if_form p a b c))
-if_steps r p a b c old m1 m2 m3 new e1 e2 e3 h =
+pub if_steps : (p : ℕ) (a b c : Single) (old m1 m2 m3 new : List ExpandedNode)
+    → m1 ≡ old ++ node (Form k.If) p 3 ∷ [] → m2 ≡ m1 ++ flat_one a → m3 ≡ m2 ++ flat_one b → new ≡ m3 ++ flat_one c
+    → new ≡ old ++ flat_one (Rows.if_form p a b c)
+if_steps p a b c old m1 m2 m3 new e1 e2 e3 h =
     let n : List ExpandedNode = node (Form k.If) p 3 ∷ [] in
     let written : m3 ≡ old ++ ((n ++ flat_one a) ++ flat_one b) =
     two_steps old m2 m3 (n ++ flat_one a) (flat_one b) (two_steps old m1 m2 n (flat_one a) e1 e2) e3 in
-    last_step r old m3 new ((n ++ flat_one a) ++ flat_one b) (flat_one c) _ written (rw (append_assoc, append-nil) refl) h
+    last_step old m3 new ((n ++ flat_one a) ++ flat_one b) (flat_one c) _ written (rw (append_assoc, append-nil) refl) h
 
 -- a `when`
-pub when_steps : {A E : Type 0} (r : Result A E) (s : Scope) (p : ℕ) (args body : Data) (old m1 m2 m3 new : List ExpandedNode)
+pub when_steps : (s : Scope) (p : ℕ) (args body : Data) (old m1 m2 m3 new : List ExpandedNode)
     → body ≡ behind 1 args → m1 ≡ old ++ node (Form k.If) p 3 ∷ [] → m2 ≡ m1 ++ flat_one (first p (forms_in s args))
-    → m3 ≡ m2 ++ flat_one (progn_form p (forms_in s body)) → OnOk r (new ≡ m3 ++ flat_one (nil_form p))
-    → OnOk r (new ≡ old ++ flat_one (Rows.when_form p (forms_in s args)))
-when_steps r s p args body old m1 m2 m3 new is e1 e2 e3 h =
+    → m3 ≡ m2 ++ flat_one (progn_form p (forms_in s body)) → new ≡ m3 ++ flat_one (nil_form p)
+    → new ≡ old ++ flat_one (Rows.when_form p (forms_in s args))
+when_steps s p args body old m1 m2 m3 new is e1 e2 e3 h =
     let same : progn_form p (forms_in s body) ≡ progn_form p (others (forms_in s args)) =
     ap (progn_form p) (ap (forms_in s) is ∙ sym (others-forms s args)) in
-    if_steps r p (first p (forms_in s args)) (progn_form p (others (forms_in s args))) (nil_form p) old m1 m2 m3 new e1 e2 (e3 ∙ ap (λ t. m2 ++ flat_one t) same) h
+    if_steps p (first p (forms_in s args)) (progn_form p (others (forms_in s args))) (nil_form p) old m1 m2 m3 new e1 e2 (e3 ∙ ap (λ t. m2 ++ flat_one t) same) h
 
 -- an answer of what is the same
-on_same : {A E : Type 0} (r : Result A E) (new mid x y : List ExpandedNode) → x ≡ y → OnOk r (new ≡ mid ++ x) → OnOk r (new ≡ mid ++ y)
-on_same (Ok v) new mid x y e h = h ∙ ap (λ ns. mid ++ ns) e
-on_same (Err v) new mid x y e h = h
+on_same : (new mid x y : List ExpandedNode) → x ≡ y → new ≡ mid ++ x → new ≡ mid ++ y
+on_same new mid x y e h = h ∙ ap (λ ns. mid ++ ns) e
 
 -- an `unless`
-pub unless_steps : {A E : Type 0} (r : Result A E) (s : Scope) (p : ℕ) (args body : Data) (old m1 m2 m3 new : List ExpandedNode)
+pub unless_steps : (s : Scope) (p : ℕ) (args body : Data) (old m1 m2 m3 new : List ExpandedNode)
     → body ≡ behind 1 args → m1 ≡ old ++ node (Form k.If) p 3 ∷ [] → m2 ≡ m1 ++ flat_one (first p (forms_in s args))
-    → m3 ≡ m2 ++ flat_one (nil_form p) → OnOk r (new ≡ m3 ++ flat_one (progn_form p (forms_in s body)))
-    → OnOk r (new ≡ old ++ flat_one (Rows.unless_form p (forms_in s args)))
-unless_steps r s p args body old m1 m2 m3 new is e1 e2 e3 h =
+    → m3 ≡ m2 ++ flat_one (nil_form p) → new ≡ m3 ++ flat_one (progn_form p (forms_in s body))
+    → new ≡ old ++ flat_one (Rows.unless_form p (forms_in s args))
+unless_steps s p args body old m1 m2 m3 new is e1 e2 e3 h =
     let same : progn_form p (forms_in s body) ≡ progn_form p (others (forms_in s args)) =
     ap (progn_form p) (ap (forms_in s) is ∙ sym (others-forms s args)) in
-    if_steps r p (first p (forms_in s args)) (nil_form p) (progn_form p (others (forms_in s args))) old m1 m2 m3 new e1 e2 e3
-    (on_same r new m3 (flat_one (progn_form p (forms_in s body))) (flat_one (progn_form p (others (forms_in s args)))) (ap flat_one same) h)
+    if_steps p (first p (forms_in s args)) (nil_form p) (progn_form p (others (forms_in s args))) old m1 m2 m3 new e1 e2 e3
+    (on_same new m3 (flat_one (progn_form p (forms_in s body))) (flat_one (progn_form p (others (forms_in s args)))) (ap flat_one same) h)
 
 -- what `or` and `cond` have in common, written flat
 pub flat-either : (x p : ℕ) (a rest : Single) → flat_one (Rows.either x p a rest) ≡ either_nodes x p a ++ flat_one rest
@@ -99,10 +100,6 @@ flat-either x p a rest =
     ap (λ ns. node (Form k.Let) p 2 ∷ (flat_one a ++ (node (Form (k.BindLocal x 0)) p 1 ∷ (node (Form k.If) p 3 ∷ (node (Form (k.Local x)) p 0 ∷ (node (Form (k.Local x)) p 0 ∷ ns))))))
     (append-nil ((f ++ []) ++ []) ∙ append-nil (f ++ []) ∙ append-nil f)
     ∙ ap (λ ns. node (Form k.Let) p 2 ∷ ns) (sym (append_assoc (flat_one a) tail f))
-
--- what is written so far, with what is left, is all
-step_back : (now new x y z all : List ExpandedNode) → z ≡ x ++ y → now ++ z ≡ all → new ≡ now ++ x → new ++ y ≡ all
-step_back now new x y z all e so_far written = ap (λ ns. ns ++ y) written ∙ append_assoc now x y ∙ ap (λ ns. now ++ ns) (sym e) ∙ so_far
 
 -- an `or` of a first and others, written flat
 flat-or : (s : Scope) (p : ℕ) (f : First) (d : Data) → data_in d ≢ 0
@@ -114,13 +111,13 @@ flat-or s p (LeafFirst l q) (Listed q2 under2 beside) some = flat-either s.depth
 flat-or s p (ListFirst q under) (Listed q2 under2 beside) some = flat-either s.depth p (first_form s (ListFirst q under)) (ors_in (deeper s) p (Listed q2 under2 beside))
 
 -- one more form of an `or` is written
-pub or_step : (s : Scope) (p n : ℕ) (f : First) (left others : Data) (now new all : List ExpandedNode) → left ≡ with_first f others → data_in others ≢ 0
-    → now ++ flat_one (ors_in s p left) ≡ all → new ≡ now ++ either_nodes s.depth p (first_form s f) → n ≡ s.depth + 1
-    → new ++ flat_one (ors_in (with_open s s.levels n) p others) ≡ all
-or_step s p n f left others now new all e some so_far written deep =
-    ap (λ m. new ++ flat_one (ors_in (with_open s s.levels m) p others)) (deep ∙ add-one s.depth)
-    ∙ step_back now new (either_nodes s.depth p (first_form s f)) (flat_one (ors_in (deeper s) p others)) (flat_one (ors_in s p left)) all
-    (ap (λ d. flat_one (ors_in s p d)) e ∙ flat-or s p f others some) so_far written
+pub or_step : (s : Scope) (p n : ℕ) (f : First) (left others : Data) (old now new : Option (List ExpandedNode)) (all : List ExpandedNode) → left ≡ with_first f others → data_in others ≢ 0
+    → Writes old now (flat_one (ors_in s p left)) all → Wrote now new (either_nodes s.depth p (first_form s f)) → n ≡ s.depth + 1
+    → Writes old new (flat_one (ors_in (with_open s s.levels n) p others)) all
+or_step s p n f left others old now new all e some so_far written deep =
+    let one : List ExpandedNode = either_nodes s.depth p (first_form s f) in
+    writes_next old now new one (flat_one (ors_in s p left)) (flat_one (ors_in (with_open s s.levels n) p others)) all so_far written
+    (ap (λ d. flat_one (ors_in s p d)) e ∙ flat-or s p f others some ∙ ap (λ m. one ++ flat_one (ors_in (with_open s s.levels m) p others)) (sym (deep ∙ add-one s.depth)))
 
 -- a clause of `cond` that is just a test, written flat
 flat-test : (x p : ℕ) (fs : Expansion) (rest inside : Single) → count_of fs ≡ 1 → flat_one (Rows.clause_of_cond x p fs rest inside) ≡ clause_nodes x p fs ++ flat_one inside
@@ -129,15 +126,16 @@ flat-test x p (Tree kind q under NoTrees) rest inside one = flat-either x p _ in
 flat-test x p (Tree kind q under (Tree kind' q' under' beside)) rest inside one = absurd (omega arith)
 
 -- one more such clause is written
-pub test_step : (s : Scope) (p q n : ℕ) (f : First) (under left others : Data) (now new all : List ExpandedNode) → left ≡ with_first f others → f ≡ ListFirst q under
-    → data_in under ≡ 1 → now ++ flat_one (conds_in s p left) ≡ all → new ≡ now ++ clause_nodes s.depth p (forms_in s under) → n ≡ s.depth + 1
-    → new ++ flat_one (conds_in (with_open s s.levels n) p others) ≡ all
-test_step s p q n f under left others now new all e is one so_far written deep =
+pub test_step : (s : Scope) (p q n : ℕ) (f : First) (under left others : Data) (old now new : Option (List ExpandedNode)) (all : List ExpandedNode) → left ≡ with_first f others → f ≡ ListFirst q under
+    → data_in under ≡ 1 → Writes old now (flat_one (conds_in s p left)) all → Wrote now new (clause_nodes s.depth p (forms_in s under)) → n ≡ s.depth + 1
+    → Writes old new (flat_one (conds_in (with_open s s.levels n) p others)) all
+test_step s p q n f under left others old now new all e is one so_far written deep =
     let here : left ≡ Listed q under others = e ∙ ap (λ g. with_first g others) is in
     let one_form : count_of (forms_in s under) ≡ 1 = count-forms s under ∙ one in
-    ap (λ m. new ++ flat_one (conds_in (with_open s s.levels m) p others)) (deep ∙ add-one s.depth)
-    ∙ step_back now new (clause_nodes s.depth p (forms_in s under)) (flat_one (conds_in (deeper s) p others)) (flat_one (conds_in s p left)) all
-    (ap (λ d. flat_one (conds_in s p d)) here ∙ flat-test s.depth p (forms_in s under) (conds_in s p others) (conds_in (deeper s) p others) one_form) so_far written
+    let clause : List ExpandedNode = clause_nodes s.depth p (forms_in s under) in
+    writes_next old now new clause (flat_one (conds_in s p left)) (flat_one (conds_in (with_open s s.levels n) p others)) all so_far written
+    (ap (λ d. flat_one (conds_in s p d)) here ∙ flat-test s.depth p (forms_in s under) (conds_in s p others) (conds_in (deeper s) p others) one_form
+    ∙ ap (λ m. clause ++ flat_one (conds_in (with_open s s.levels m) p others)) (sym (deep ∙ add-one s.depth)))
 
 -- a clause of a test and a body, written flat
 flat-clause : (x p : ℕ) (a : Single) (fs : Expansion) → count_of fs ≢ 0
@@ -145,16 +143,35 @@ flat-clause : (x p : ℕ) (a : Single) (fs : Expansion) → count_of fs ≢ 0
 flat-clause x p a NoTrees some = absurd (some refl)
 flat-clause x p a (Tree kind q under beside) some = refl
 
+-- a clause that is no test alone, with the clauses behind it
+flat-other : (x p : ℕ) (fs : Expansion) (rest inside : Single) → count_of fs ≢ 1 → flat_one (Rows.clause_of_cond x p fs rest inside) ≡ clause_nodes x p fs ++ flat_one rest
+flat-other x p NoTrees rest inside more = refl
+flat-other x p (Tree kind q under NoTrees) rest inside more = absurd (more refl)
+flat-other x p (Tree kind q under (Tree kind' q' under' beside)) rest inside more =
+    let a : Single = record { kind = kind; place = q; under = under } in
+    let b : List ExpandedNode = flat_one (progn_form p (Tree kind' q' under' beside)) in
+    ap (λ ns. node (Form k.If) p 3 ∷ (flat_one a ++ (b ++ ns))) (append-nil (flat_one rest)) ∙ ap (λ ns. node (Form k.If) p 3 ∷ ns) (sym (append_assoc (flat_one a) b (flat_one rest)))
+
+-- one more clause is written
+pub clause_step : (s : Scope) (p q : ℕ) (f : First) (under left others : Data) (old now new : Option (List ExpandedNode)) (all : List ExpandedNode) → left ≡ with_first f others → f ≡ ListFirst q under
+    → data_in under ≢ 1 → Writes old now (flat_one (conds_in s p left)) all → Wrote now new (clause_nodes s.depth p (forms_in s under))
+    → Writes old new (flat_one (conds_in s p others)) all
+clause_step s p q f under left others old now new all e is more so_far written =
+    let here : left ≡ Listed q under others = e ∙ ap (λ g. with_first g others) is in
+    writes_next old now new (clause_nodes s.depth p (forms_in s under)) (flat_one (conds_in s p left)) (flat_one (conds_in s p others)) all so_far written
+    (ap (λ d. flat_one (conds_in s p d)) here
+    ∙ flat-other s.depth p (forms_in s under) (conds_in s p others) (conds_in (deeper s) p others) (λ one. more (sym (count-forms s under) ∙ one)))
+
 -- it is written in three steps
-pub clause_steps : {A E : Type 0} (r : Result A E) (s : Scope) (x p : ℕ) (f : First) (under body : Data) (old m1 m2 new : List ExpandedNode)
+pub clause_steps : (s : Scope) (x p : ℕ) (f : First) (under body : Data) (old m1 m2 new : List ExpandedNode)
     → under ≡ with_first f body → data_in body ≢ 0 → m1 ≡ old ++ node (Form k.If) p 3 ∷ [] → m2 ≡ m1 ++ flat_one (first_form s f)
-    → OnOk r (new ≡ m2 ++ flat_one (progn_form p (forms_in s body))) → OnOk r (new ≡ old ++ clause_nodes x p (forms_in s under))
-clause_steps r s x p f under body old m1 m2 new e some e1 e2 h =
+    → new ≡ m2 ++ flat_one (progn_form p (forms_in s body)) → new ≡ old ++ clause_nodes x p (forms_in s under)
+clause_steps s x p f under body old m1 m2 new e some e1 e2 h =
     let n : List ExpandedNode = node (Form k.If) p 3 ∷ [] in
     let many : count_of (forms_in s body) ≢ 0 = λ none. some (sym (count-forms s body) ∙ none) in
     let all : clause_nodes x p (forms_in s under) ≡ node (Form k.If) p 3 ∷ (flat_one (first_form s f) ++ flat_one (progn_form p (forms_in s body))) =
     ap (clause_nodes x p) (ap (forms_in s) e ∙ forms-first s f body) ∙ flat-clause x p (first_form s f) (forms_in s body) many in
-    last_step r old m2 new (n ++ flat_one (first_form s f)) (flat_one (progn_form p (forms_in s body))) _ (two_steps old m1 m2 n _ e1 e2) (sym all) h
+    last_step old m2 new (n ++ flat_one (first_form s f)) (flat_one (progn_form p (forms_in s body))) _ (two_steps old m1 m2 n _ e1 e2) (sym all) h
 
 -- one node more at the end
 repeated-end : (n : ℕ) (x : ExpandedNode) → repeated n x ++ (x ∷ []) ≡ x ∷ repeated n x
@@ -181,21 +198,23 @@ flat-and p (suc n) (Tree kind q under (Tree kind' q' under' beside)) many =
     ∙ ap (λ ns. node (Form k.If) p 3 ∷ ns) (sym (append_assoc (flat_one a) (and_front p rest) (nil_node p ∷ repeated n (nil_node p))))
 
 -- the constants at its end are written
-pub and_end : {A E : Type 0} (r : Result A E) (s : Scope) (p c n : ℕ) (args left : Data) (old now new : List ExpandedNode) → c ≡ data_in args → c ≢ 0
-    → n ≡ c - 1 → left ≡ NoData → now ++ and_front p (forms_in s left) ≡ old ++ and_front p (forms_in s args)
-    → OnOk r (new ≡ now ++ repeated n (nil_node p)) → OnOk r (new ≡ old ++ flat_one (Rows.and_form p (forms_in s args)))
-and_end r s p c n args left old now new many some less none so_far h =
+pub and_end : (s : Scope) (p c n : ℕ) (args left : Data) (old now new : Option (List ExpandedNode)) → c ≡ data_in args → c ≢ 0
+    → n ≡ c - 1 → left ≡ NoData → Writes old now (and_front p (forms_in s left)) (and_front p (forms_in s args))
+    → Wrote now new (repeated n (nil_node p)) → Wrote old new (flat_one (Rows.and_form p (forms_in s args)))
+and_end s p c n args left old now new many some less none so_far h =
     let count : count_of (forms_in s args) ≡ suc n = count-forms s args ∙ omega (arith, many, some, less) in
-    let written : now ≡ old ++ and_front p (forms_in s args) = sym (append-nil now) ∙ ap (λ d. now ++ and_front p (forms_in s d)) (sym none) ∙ so_far in
-    last_step r old now new (and_front p (forms_in s args)) (repeated n (nil_node p)) _ written (sym (flat-and p n (forms_in s args) count)) h
+    let front : List ExpandedNode = and_front p (forms_in s args) in
+    wrote_same old new (front ++ repeated n (nil_node p)) _
+    (wrote_both old now new front (repeated n (nil_node p)) (writes_done old now (and_front p (forms_in s left)) front so_far (ap (λ d. and_front p (forms_in s d)) none)) h)
+    (sym (flat-and p n (forms_in s args) count))
 
 -- a `prog1`
-pub prog1_steps : {A E : Type 0} (r : Result A E) (s : Scope) (x p n c : ℕ) (args rest body : Data) (old m1 m2 m3 m4 new : List ExpandedNode)
+pub prog1_steps : (s : Scope) (x p n c : ℕ) (args rest body : Data) (old m1 m2 m3 m4 new : List ExpandedNode)
     → n ≡ s.depth + 1 → rest ≡ behind 1 args → body ≡ body_of s.names rest → c ≡ data_in body → m1 ≡ old ++ node (Form k.Let) p 2 ∷ []
     → m2 ≡ m1 ++ flat_one (first p (forms_in s args)) → m3 ≡ m2 ++ node (Form (k.BindLocal x 0)) p (c + 1) ∷ []
-    → m4 ≡ m3 ++ flat (forms_in (with_open s s.levels n) body) → OnOk r (new ≡ m4 ++ flat_one (Rows.local x p))
-    → OnOk r (new ≡ old ++ flat_one (Rows.prog1_form x p (first p (forms_in s args)) (body_in (deeper s) 1 args)))
-prog1_steps r s x p n c args rest body old m1 m2 m3 m4 new deep behind_it is many e1 e2 e3 e4 h =
+    → m4 ≡ m3 ++ flat (forms_in (with_open s s.levels n) body) → new ≡ m4 ++ flat_one (Rows.local x p)
+    → new ≡ old ++ flat_one (Rows.prog1_form x p (first p (forms_in s args)) (body_in (deeper s) 1 args))
+prog1_steps s x p n c args rest body old m1 m2 m3 m4 new deep behind_it is many e1 e2 e3 e4 h =
     let a : Single = first p (forms_in s args) in
     let fs : Expansion = forms_in (deeper s) body in
     let same : body_in (deeper s) 1 args ≡ fs = body-forms (deeper s) 1 args ∙ ap (forms_in (deeper s)) (sym (is ∙ ap (body_of s.names) behind_it)) in
@@ -211,7 +230,7 @@ prog1_steps r s x p n c args rest body old m1 m2 m3 m4 new deep behind_it is man
     append_assoc ((n1 ++ flat_one a) ++ n2) (flat fs) l ∙ append_assoc (n1 ++ flat_one a) n2 (flat fs ++ l)
     ∙ ap (λ ns. node (Form k.Let) p 2 ∷ (flat_one a ++ (node (Form (k.BindLocal x 0)) p (c + 1) ∷ ns))) (sym (append-nil (flat j) ∙ flat-joined fs (only (Rows.local x p))))
     ∙ ap (λ m. node (Form k.Let) p 2 ∷ (flat_one a ++ (node (Form (k.BindLocal x 0)) p m ∷ (flat j ++ [])))) (sym count) in
-    last_step r old m4 new (((n1 ++ flat_one a) ++ n2) ++ flat fs) (flat_one (Rows.local x p)) _ written (all ∙ ap (λ b. flat_one (Rows.prog1_form x p a b)) (sym same)) h
+    last_step old m4 new (((n1 ++ flat_one a) ++ n2) ++ flat fs) (flat_one (Rows.local x p)) _ written (all ∙ ap (λ b. flat_one (Rows.prog1_form x p a b)) (sym same)) h
 
 -- how much is changed, where it is written
 amount-behind : (s : Scope) (p : ℕ) (f : First) (args rest more : Data) → rest ≡ behind 1 args → rest ≡ with_first f more
@@ -219,11 +238,11 @@ amount-behind : (s : Scope) (p : ℕ) (f : First) (args rest more : Data) → re
 amount-behind s p f args rest more is e = ap (Rows.amount p) (others-forms s args ∙ ap (forms_in s) (sym is ∙ e) ∙ forms-first s f more)
 
 -- an `incf` or `decf`
-pub change_steps : {A E : Type 0} (r : Result A E) (s : Scope) (p : ℕ) (target : Target) (g : Primitive) (sets reads : CoreKind) (f : First) (args rest more : Data)
+pub change_steps : (s : Scope) (p : ℕ) (target : Target) (g : Primitive) (sets reads : CoreKind) (f : First) (args rest more : Data)
     (old m1 m2 m3 new : List ExpandedNode) → rest ≡ behind 1 args → rest ≡ with_first f more → sets ≡ set_kind target → reads ≡ read_kind target
     → m1 ≡ old ++ node (Form sets) p 1 ∷ [] → m2 ≡ m1 ++ node (Form (k.Apply g)) p 2 ∷ [] → m3 ≡ m2 ++ node (Form reads) p 0 ∷ []
-    → OnOk r (new ≡ m3 ++ flat_one (first_form s f)) → OnOk r (new ≡ old ++ flat_one (Rows.change_form p target g (forms_in s args)))
-change_steps r s p target g sets reads f args rest more old m1 m2 m3 new is e set read e1 e2 e3 h =
+    → new ≡ m3 ++ flat_one (first_form s f) → new ≡ old ++ flat_one (Rows.change_form p target g (forms_in s args))
+change_steps s p target g sets reads f args rest more old m1 m2 m3 new is e set read e1 e2 e3 h =
     let n1 : List ExpandedNode = node (Form sets) p 1 ∷ [] in
     let n2 : List ExpandedNode = node (Form (k.Apply g)) p 2 ∷ [] in
     let n3 : List ExpandedNode = node (Form reads) p 0 ∷ [] in
@@ -235,7 +254,7 @@ change_steps r s p target g sets reads f args rest more old m1 m2 m3 new is e se
     ap (λ m. node (Form m) p 1 ∷ (node (Form (k.Apply g)) p 2 ∷ (node (Form reads) p 0 ∷ flat_one (first_form s f)))) set
     ∙ ap (λ m. node (Form (set_kind target)) p 1 ∷ (node (Form (k.Apply g)) p 2 ∷ (node (Form m) p 0 ∷ flat_one (first_form s f)))) read
     ∙ ap (λ ns. node (Form (set_kind target)) p 1 ∷ (node (Form (k.Apply g)) p 2 ∷ (node (Form (read_kind target)) p 0 ∷ ns))) last in
-    last_step r old m3 new ((n1 ++ n2) ++ n3) (flat_one (first_form s f)) _ written all h
+    last_step old m3 new ((n1 ++ n2) ++ n3) (flat_one (first_form s f)) _ written all h
 
 -- one node more, in front or behind
 repeated-next : (n : ℕ) (x : ExpandedNode) (xs : List ExpandedNode) → repeated n x ++ (x ∷ xs) ≡ x ∷ (repeated n x ++ xs)
@@ -265,13 +284,13 @@ flat-fold p n g (Tree kind q under (Tree kind' q' under' beside)) many =
     flat-folded p g (record { kind = kind; place = q; under = under }) (Tree kind' q' under' beside)
     ∙ ap (λ m. repeated m (two g p) ++ (flat_one (record { kind = kind; place = q; under = under }) ++ flat (Tree kind' q' under' beside))) left
 
-pub fold_steps : {A E : Type 0} (r : Result A E) (s : Scope) (p c : ℕ) (g : Primitive) (args : Data) (old mid new : List ExpandedNode) → c ≡ data_in args → c ≢ 0 → c ≢ 1
-    → mid ≡ old ++ repeated (c - 1) (two g p) → OnOk r (new ≡ mid ++ flat (forms_in s args)) → OnOk r (new ≡ old ++ flat_one (Rows.fold_form p g (forms_in s args)))
-fold_steps r s p zero g args old mid new many some more e h = absurd (some refl)
-fold_steps r s p (suc zero) g args old mid new many some more e h = absurd (more refl)
-fold_steps r s p (suc (suc n)) g args old mid new many some more e h =
+pub fold_steps : (s : Scope) (p c : ℕ) (g : Primitive) (args : Data) (old mid new : List ExpandedNode) → c ≡ data_in args → c ≢ 0 → c ≢ 1
+    → mid ≡ old ++ repeated (c - 1) (two g p) → new ≡ mid ++ flat (forms_in s args) → new ≡ old ++ flat_one (Rows.fold_form p g (forms_in s args))
+fold_steps s p zero g args old mid new many some more e h = absurd (some refl)
+fold_steps s p (suc zero) g args old mid new many some more e h = absurd (more refl)
+fold_steps s p (suc (suc n)) g args old mid new many some more e h =
     let less : suc (suc n) - 1 ≡ suc n = omega arith in
-    last_step r old mid new (repeated (suc n) (two g p)) (flat (forms_in s args)) _ (e ∙ ap (λ m. old ++ repeated m (two g p)) less) (sym (flat-fold p n g (forms_in s args) (count-forms s args ∙ sym many))) h
+    last_step old mid new (repeated (suc n) (two g p)) (flat (forms_in s args)) _ (e ∙ ap (λ m. old ++ repeated m (two g p)) less) (sym (flat-fold p n g (forms_in s args) (count-forms s args ∙ sym many))) h
 
 -- a list is of its shape
 pub listed-shape : (s : Scope) (p : ℕ) (under : Data) → listed s p under ≡ list_form s p (shape_of s p under) (let_variables (behind 1 under)) (parts_in s p (behind 1 under))
@@ -296,30 +315,25 @@ flat-role Value a b fs = refl
 flat-role Place a b fs = refl
 flat-role Skipped a b fs = refl
 
-pub role_step : (s : Scope) (roles : Roles) (i : ℕ) (r : Role) (f : First) (left others : Data) (now new all : List ExpandedNode) → left ≡ with_first f others
-    → r ≡ role_at roles i → now ++ flat (by_roles s roles i left) ≡ all → new ≡ now ++ role_nodes r (first_form s f) (first_placed s f)
-    → new ++ flat (by_roles s roles (i + 1) others) ≡ all
-role_step s roles i r f left others now new all e is so_far written =
+pub role_step : (s : Scope) (roles : Roles) (i : ℕ) (r : Role) (f : First) (left others : Data) (old now new : Option (List ExpandedNode)) (all : List ExpandedNode) → left ≡ with_first f others
+    → r ≡ role_at roles i → Writes old now (flat (by_roles s roles i left)) all → Wrote now new (role_nodes r (first_form s f) (first_placed s f))
+    → Writes old new (flat (by_roles s roles (i + 1) others)) all
+role_step s roles i r f left others old now new all e is so_far written =
     let a : Single = first_form s f in
     let b : Single = first_placed s f in
     let here : flat (by_roles s roles i left) ≡ role_nodes r a b ++ flat (by_roles s roles (suc i) others) =
     ap (λ d. flat (by_roles s roles i d)) e ∙ ap flat (roles-first s roles i f others) ∙ flat-role (role_at roles i) a b (by_roles s roles (suc i) others)
     ∙ ap (λ q. role_nodes q a b ++ flat (by_roles s roles (suc i) others)) (sym is) in
-    rw (written, add-one) (append_assoc now (role_nodes r a b) (flat (by_roles s roles (suc i) others)) ∙ ap (λ ns. now ++ ns) (sym here) ∙ so_far)
+    writes_next old now new (role_nodes r a b) (flat (by_roles s roles i left)) (flat (by_roles s roles (i + 1) others)) all so_far written
+    (here ∙ ap (λ m. role_nodes r a b ++ flat (by_roles s roles m others)) (sym (add-one i)))
 
 -- nothing is written for one that is skipped
-pub nothing_written : (r : Role) (a b : Single) (now new : List ExpandedNode) → r ≡ Skipped → new ≡ now → new ≡ now ++ role_nodes r a b
-nothing_written Value a b now new is same = cc
-nothing_written Place a b now new is same = cc
-nothing_written Skipped a b now new is same = same ∙ sym (append-nil now)
+pub nothing_written : (r : Role) (a b : Single) (now : Option (List ExpandedNode)) → r ≡ Skipped → Wrote now now (role_nodes r a b)
+nothing_written r a b now is = wrote_same now now [] (role_nodes r a b) (wrote_none now) (sym (ap (λ q. role_nodes q a b) is))
 
 -- a value, and what stands in a function's place
-pub value_written : (r : Role) (a b : Single) (now new : List ExpandedNode) → r ≡ Value → new ≡ now ++ flat_one a → new ≡ now ++ role_nodes r a b
-value_written Value a b now new is same = same
-value_written Place a b now new is same = cc
-value_written Skipped a b now new is same = cc
+pub value_written : (r : Role) (a b : Single) (now new : Option (List ExpandedNode)) → r ≡ Value → Wrote now new (flat_one a) → Wrote now new (role_nodes r a b)
+value_written r a b now new is written = wrote_same now new (flat_one a) (role_nodes r a b) written (sym (ap (λ q. role_nodes q a b) is))
 
-pub place_written : (r : Role) (a b : Single) (now new : List ExpandedNode) → r ≡ Place → new ≡ now ++ flat_one b → new ≡ now ++ role_nodes r a b
-place_written Value a b now new is same = cc
-place_written Place a b now new is same = same
-place_written Skipped a b now new is same = cc
+pub place_written : (r : Role) (a b : Single) (now new : Option (List ExpandedNode)) → r ≡ Place → Wrote now new (flat_one b) → Wrote now new (role_nodes r a b)
+place_written r a b now new is written = wrote_same now new (flat_one b) (role_nodes r a b) written (sym (ap (λ q. role_nodes q a b) is))

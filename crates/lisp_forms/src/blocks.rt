@@ -1,5 +1,6 @@
-ghost use Rattle.std.specs.Prelude.{◌≡◌, ◌++◌, ◌∷◌, [], ◌+◌, ◌^◌, ◌<◌, ℕ, OnOk};
+ghost use Rattle.std.specs.Prelude.{◌≡◌, ◌∷◌, [], ◌+◌, ◌^◌, ◌<◌, ℕ};
 ghost use Rattle.lisp_base.specs.Forest.{count_of};
+ghost use Rattle.lisp_base.specs.Writing.{Wrote};
 ghost use Rattle.lisp_forms.specs.Flat.{flat};
 ghost use Rattle.lisp_forms.specs.Rows;
 ghost use Rattle.lisp_forms.specs.Trees.{Expansion};
@@ -8,7 +9,7 @@ ghost use Rattle.lisp_forms.specs.Written.{leaves_here, lowered_node, skipped_be
 use crate::nodes::{push_form, push_node};
 use form_shapes::expanded::{Expanded, ExpandedNode};
 use lisp_base::id::Place;
-use lisp_base::memory::Memory;
+use lisp_base::writer::Writer;
 use lisp_program::form::CoreKind;
 
 /// Whether what stands for a form is a function: what is in it is another call.
@@ -104,20 +105,15 @@ fn lowered_kind(number: u32, kind: Expanded) -> Expanded
 }
 
 /// Writes these without the level with this number.
-fn push_lowered(
-    number: u32,
-    body: &[ExpandedNode],
-    nodes: &mut Vec<ExpandedNode>,
-) -> Result<(), Memory>
-    ensures { OnOk result ((e : Expansion) → body.now ≡ flat e → nodes.new.items ≡ nodes.old.items ++ flat (Rows.lowered number e)) }
+fn push_lowered(number: u32, body: &[ExpandedNode], nodes: &mut Writer<ExpandedNode>)
+    ensures { (e : Expansion) → body.now ≡ flat e → Wrote nodes.old nodes.new (flat (Rows.lowered number e)) }
 {
     // How many of the next forms belong to functions.
     let mut skipped: u128 = 0;
     for node in body {
-        push_lowered_node(number, skipped, node, nodes)?;
+        push_lowered_node(number, skipped, node, nodes);
         skipped = skipped_behind(skipped, node);
     }
-    Ok(())
 }
 
 /// Writes a node without the level with this number, where so many of the forms from it on belong to a function.
@@ -125,9 +121,9 @@ fn push_lowered_node(
     number: u32,
     skipped: u128,
     node: &ExpandedNode,
-    nodes: &mut Vec<ExpandedNode>,
-) -> Result<(), Memory>
-    ensures { OnOk result (nodes.new.items ≡ nodes.old.items ++ lowered_node number skipped node.now ∷ []) }
+    nodes: &mut Writer<ExpandedNode>,
+)
+    ensures { Wrote nodes.old nodes.new (lowered_node number skipped node.now ∷ []) }
 {
     if skipped > 0 {
         return push_node(node.kind, node.place, node.parts, nodes);
@@ -146,16 +142,15 @@ pub fn push_blocked(
     place: Place,
     count: u32,
     body: &[ExpandedNode],
-    nodes: &mut Vec<ExpandedNode>,
-) -> Result<(), Memory>
-    ensures { OnOk result ((e : Expansion) → body.now ≡ flat e → count ≡ count_of e → nodes.new.items ≡ nodes.old.items ++ flat (Rows.blocked number place e)) }
+    nodes: &mut Writer<ExpandedNode>,
+)
+    ensures { (e : Expansion) → body.now ≡ flat e → count ≡ count_of e → Wrote nodes.old nodes.new (flat (Rows.blocked number place e)) }
 {
     if !returns_to(number, body) {
         return push_lowered(number, body, nodes);
     }
-    push_form(CoreKind::Block(number), place, count, nodes)?;
-    nodes.extend_from_slice(body)?;
-    Ok(())
+    push_form(CoreKind::Block(number), place, count, nodes);
+    nodes.extend(body);
 }
 
 /// How many forms a body of so many is in its implicit block.

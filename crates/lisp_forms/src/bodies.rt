@@ -1,5 +1,6 @@
-ghost use Rattle.std.specs.Prelude.{◌≡◌, ◌++◌, ℕ, ◌<◌, ◌^◌, OnOk, Some};
+ghost use Rattle.std.specs.Prelude.{◌≡◌, ℕ, ◌<◌, ◌^◌, Some};
 ghost use Rattle.lisp_base.specs.Forest.{count_of, joined};
+ghost use Rattle.lisp_base.specs.Writing.{Wrote};
 ghost use Rattle.form_shapes.specs.Contexts.{scope_at};
 ghost use Rattle.form_shapes.specs.Scopes.{Scope, inside as inside_of};
 ghost use Rattle.form_shapes.specs.Bindings.{received_by};
@@ -21,7 +22,7 @@ use form_shapes::single::{is_list, rest, symbol_by};
 use form_shapes::within::{clause_within, level_within};
 use lisp_base::condition::Class;
 use lisp_base::id::{Place, SymbolId};
-use lisp_base::memory::Memory;
+use lisp_base::writer::Writer;
 use lisp_data::items::{First, Items};
 use lisp_program::form::CoreKind;
 use std::alloc::Global;
@@ -36,12 +37,12 @@ pub fn push_body_form(
     kind: CoreKind,
     place: Place,
     arguments: Items,
-    nodes: &mut Vec<ExpandedNode>,
-) -> Result<(), Memory>
-    ensures { OnOk result (nodes.new.items ≡ nodes.old.items ++ flat_one (form kind place (body_in (scope_at base.now levels.now depth) 0 arguments.entry))) }
+    nodes: &mut Writer<ExpandedNode>,
+)
+    ensures { Wrote nodes.old nodes.new (flat_one (form kind place (body_in (scope_at base.now levels.now depth) 0 arguments.entry))) }
 {
     let body = body_of(base.symbols, arguments);
-    push_form(kind, place, body.count(), nodes)?;
+    push_form(kind, place, body.count(), nodes);
     push_all(alloc, base, levels, depth, body, nodes)
 }
 
@@ -55,11 +56,11 @@ pub fn push_local_interrupts(
     number: u32,
     place: Place,
     arguments: Items,
-    nodes: &mut Vec<ExpandedNode>,
-) -> Result<(), Memory>
-    ensures { OnOk result (nodes.new.items ≡ nodes.old.items ++ flat_one (Rows.local_form number place (body_in (scope_at base.now levels.now depth) 0 arguments.entry))) }
+    nodes: &mut Writer<ExpandedNode>,
+)
+    ensures { Wrote nodes.old nodes.new (flat_one (Rows.local_form number place (body_in (scope_at base.now levels.now depth) 0 arguments.entry))) }
 {
-    push_form(CoreKind::AllowWithInterrupts(number), place, 1, nodes)?;
+    push_form(CoreKind::AllowWithInterrupts(number), place, 1, nodes);
     push_body_form(
         alloc,
         base,
@@ -81,11 +82,13 @@ pub fn push_without(
     depth: u32,
     place: Place,
     arguments: Items,
-    nodes: &mut Vec<ExpandedNode>,
-) -> Result<(), Memory>
-    ensures { OnOk result (nodes.new.items ≡ nodes.old.items ++ flat_one (form (CoreKind.WithoutInterrupts (scope_at base.now levels.now depth).depth) place (body_in (inside_of (scope_at base.now levels.now depth) Level.Region) 0 arguments.entry))) }
+    nodes: &mut Writer<ExpandedNode>,
+)
+    ensures { Wrote nodes.old nodes.new (flat_one (form (CoreKind.WithoutInterrupts (scope_at base.now levels.now depth).depth) place (body_in (inside_of (scope_at base.now levels.now depth) Level.Region) 0 arguments.entry))) }
 {
-    let open = level_within(alloc, base, levels, depth, Level::Region)?;
+    let Ok(open) = level_within(alloc, base, levels, depth, Level::Region) else {
+        return nodes.fill();
+    };
     let kind = CoreKind::WithoutInterrupts(depth);
     push_body_form(
         alloc,
@@ -109,11 +112,13 @@ pub fn push_block(
     name: SymbolId,
     place: Place,
     arguments: Items,
-    nodes: &mut Vec<ExpandedNode>,
-) -> Result<(), Memory>
-    ensures { OnOk result (nodes.new.items ≡ nodes.old.items ++ flat_one (form (CoreKind.Block (scope_at base.now levels.now depth).depth) place (body_in (inside_of (scope_at base.now levels.now depth) (Level.Block name)) 1 arguments.entry))) }
+    nodes: &mut Writer<ExpandedNode>,
+)
+    ensures { Wrote nodes.old nodes.new (flat_one (form (CoreKind.Block (scope_at base.now levels.now depth).depth) place (body_in (inside_of (scope_at base.now levels.now depth) (Level.Block name)) 1 arguments.entry))) }
 {
-    let open = level_within(alloc, base, levels, depth, Level::Block(name))?;
+    let Ok(open) = level_within(alloc, base, levels, depth, Level::Block(name)) else {
+        return nodes.fill();
+    };
     let kind = CoreKind::Block(depth);
     push_body_form(
         alloc,
@@ -136,15 +141,15 @@ pub fn push_catch(
     depth: u32,
     place: Place,
     arguments: Items,
-    nodes: &mut Vec<ExpandedNode>,
-) -> Result<(), Memory>
-    ensures { OnOk result (nodes.new.items ≡ nodes.old.items ++ flat_one (form CoreKind.Catch place (in_front (first_of place (forms_in (scope_at base.now levels.now depth) arguments.entry)) (body_in (scope_at base.now levels.now depth) 1 arguments.entry)))) }
+    nodes: &mut Writer<ExpandedNode>,
+)
+    ensures { Wrote nodes.old nodes.new (flat_one (form CoreKind.Catch place (in_front (first_of place (forms_in (scope_at base.now levels.now depth) arguments.entry)) (body_in (scope_at base.now levels.now depth) 1 arguments.entry)))) }
 {
     let body = body_of(base.symbols, rest(&arguments, 1));
     // The law that they are few.
     body.are_few();
-    push_form(CoreKind::Catch, place, body.count() + 1, nodes)?;
-    push_head(alloc, base, levels, depth, place, arguments, nodes)?;
+    push_form(CoreKind::Catch, place, body.count() + 1, nodes);
+    push_head(alloc, base, levels, depth, place, arguments, nodes);
     push_all(alloc, base, levels, depth, body, nodes)
 }
 
@@ -159,9 +164,9 @@ pub fn push_deadline(
     replaces: bool,
     place: Place,
     arguments: Items,
-    nodes: &mut Vec<ExpandedNode>,
-) -> Result<(), Memory>
-    ensures { OnOk result (nodes.new.items ≡ nodes.old.items ++ flat_one (form (CoreKind.WithDeadline seconds replaces) place (joined (within_first (scope_at base.now levels.now depth) (Roles.Values 0) arguments.entry) (body_in (scope_at base.now levels.now depth) 1 arguments.entry)))) }
+    nodes: &mut Writer<ExpandedNode>,
+)
+    ensures { Wrote nodes.old nodes.new (flat_one (form (CoreKind.WithDeadline seconds replaces) place (joined (within_first (scope_at base.now levels.now depth) (Roles.Values 0) arguments.entry) (body_in (scope_at base.now levels.now depth) 1 arguments.entry)))) }
 {
     let items = items_first(&arguments);
     let body = body_of(base.symbols, rest(&arguments, 1));
@@ -170,8 +175,8 @@ pub fn push_deadline(
     body.are_few();
     let parts = parts_of(Roles::Values(0), items.count()) + body.count();
     let kind = CoreKind::WithDeadline { seconds, replaces };
-    push_form(kind, place, parts, nodes)?;
-    push_by_roles(alloc, base, levels, depth, Roles::Values(0), items, nodes)?;
+    push_form(kind, place, parts, nodes);
+    push_by_roles(alloc, base, levels, depth, Roles::Values(0), items, nodes);
     push_all(alloc, base, levels, depth, body, nodes)
 }
 
@@ -184,14 +189,14 @@ pub fn push_handler(
     depth: u32,
     place: Place,
     arguments: Items,
-    nodes: &mut Vec<ExpandedNode>,
-) -> Result<(), Memory>
-    ensures { OnOk result (nodes.new.items ≡ nodes.old.items ++ flat_one (form CoreKind.HandlerCase place (in_front (first_of place (forms_in (scope_at base.now levels.now depth) arguments.entry)) (clauses_behind (scope_at base.now levels.now depth) place arguments.entry)))) }
+    nodes: &mut Writer<ExpandedNode>,
+)
+    ensures { Wrote nodes.old nodes.new (flat_one (form CoreKind.HandlerCase place (in_front (first_of place (forms_in (scope_at base.now levels.now depth) arguments.entry)) (clauses_behind (scope_at base.now levels.now depth) place arguments.entry)))) }
 {
     let clauses = rest(&arguments, 1);
     let count = count_clauses(&clauses);
-    push_form(CoreKind::HandlerCase, place, count + 1, nodes)?;
-    push_head(alloc, base, levels, depth, place, arguments, nodes)?;
+    push_form(CoreKind::HandlerCase, place, count + 1, nodes);
+    push_head(alloc, base, levels, depth, place, arguments, nodes);
     push_clauses(alloc, base, levels, depth, place, clauses, nodes)
 }
 
@@ -230,19 +235,18 @@ fn push_clauses(
     depth: u32,
     place: Place,
     clauses: Items,
-    nodes: &mut Vec<ExpandedNode>,
-) -> Result<(), Memory>
-    ensures { OnOk result (nodes.new.items ≡ nodes.old.items ++ flat (clauses_in (scope_at base.now levels.now depth) place clauses.entry)) }
+    nodes: &mut Writer<ExpandedNode>,
+)
+    ensures { Wrote nodes.old nodes.new (flat (clauses_in (scope_at base.now levels.now depth) place clauses.entry)) }
 {
     let mut left = clauses;
     while let Some((first, others)) = left.split_first() {
         match first {
             First::Leaf(_, _) => (),
-            First::List(_, under) => push_clause(alloc, base, levels, depth, place, under, nodes)?,
+            First::List(_, under) => push_clause(alloc, base, levels, depth, place, under, nodes),
         }
         left = others;
     }
-    Ok(())
 }
 
 /// Writes a clause of a `handler-case` with these.
@@ -254,9 +258,9 @@ fn push_clause(
     depth: u32,
     place: Place,
     under: Items,
-    nodes: &mut Vec<ExpandedNode>,
-) -> Result<(), Memory>
-    ensures { OnOk result (nodes.new.items ≡ nodes.old.items ++ flat_one (clause_in (scope_at base.now levels.now depth) place under.entry)) }
+    nodes: &mut Writer<ExpandedNode>,
+)
+    ensures { Wrote nodes.old nodes.new (flat_one (clause_in (scope_at base.now levels.now depth) place under.entry)) }
 {
     let Some((first, others)) = under.split_first() else {
         return push_nil(place, nodes);
@@ -268,7 +272,7 @@ fn push_clause(
     let body = body_of(base.symbols, rest(&others, 1));
     match clause_variable(&others) {
         None => {
-            push_form(CoreKind::Clause(class), place, body.count(), nodes)?;
+            push_form(CoreKind::Clause(class), place, body.count(), nodes);
             push_all(alloc, base, levels, depth, body, nodes)
         }
         Some(variable) => push_bound_clause(
@@ -288,29 +292,31 @@ fn push_bound_clause(
     variable: SymbolId,
     place: Place,
     body: Items,
-    nodes: &mut Vec<ExpandedNode>,
-) -> Result<(), Memory>
-    ensures { OnOk result (nodes.new.items ≡ nodes.old.items ++ flat_one (Rows.clause_form (scope_at base.now levels.now depth) (scope_at base.now levels.now depth).depth place class (Some variable) (forms_in (received_by (scope_at base.now levels.now depth) variable) body.entry))) }
+    nodes: &mut Writer<ExpandedNode>,
+)
+    ensures { Wrote nodes.old nodes.new (flat_one (Rows.clause_form (scope_at base.now levels.now depth) (scope_at base.now levels.now depth).depth place class (Some variable) (forms_in (received_by (scope_at base.now levels.now depth) variable) body.entry))) }
 {
     let number = depth;
-    let open = clause_within(alloc, base, levels, depth, variable)?;
+    let Ok(open) = clause_within(alloc, base, levels, depth, variable) else {
+        return nodes.fill();
+    };
     if has(base.specials, variable) {
-        push_form(CoreKind::ClauseWith(class, number), place, 1, nodes)?;
-        push_form(CoreKind::Let, place, 2, nodes)?;
-        push_local(number, place, nodes)?;
+        push_form(CoreKind::ClauseWith(class, number), place, 1, nodes);
+        push_form(CoreKind::Let, place, 2, nodes);
+        push_local(number, place, nodes);
         push_form(
             CoreKind::BindSpecial(variable, 0),
             place,
             body.count(),
             nodes,
-        )?;
+        );
     } else {
         push_form(
             CoreKind::ClauseWith(class, number),
             place,
             body.count(),
             nodes,
-        )?;
+        );
     }
     push_all(alloc, base, &open.levels, open.depth, body, nodes)
 }

@@ -1,4 +1,4 @@
-ghost use Rattle.std.specs.Prelude.{◌≡◌, ◌++◌, OnOk};
+ghost use Rattle.lisp_base.specs.Writing.{Wrote};
 ghost use Rattle.form_shapes.specs.Contexts.{scope_at};
 ghost use Rattle.form_shapes.specs.One.{let_variables};
 ghost use Rattle.form_shapes.specs.Places.{parameters_in as parameters_of, scope_within};
@@ -22,7 +22,7 @@ use form_shapes::shape::Shape;
 use form_shapes::single::rest;
 use form_shapes::within::{leaf_within, placed_within, received_within, shape_within};
 use lisp_base::id::Place;
-use lisp_base::memory::Memory;
+use lisp_base::writer::Writer;
 use lisp_data::items::{First, Items};
 use lisp_program::form::CoreKind;
 use std::alloc::Global;
@@ -35,16 +35,15 @@ pub fn push_all(
     levels: &Levels,
     depth: u32,
     items: Items,
-    nodes: &mut Vec<ExpandedNode>,
-) -> Result<(), Memory>
-    ensures { OnOk result (nodes.new.items ≡ nodes.old.items ++ flat (forms_in (scope_at base.now levels.now depth) items.entry)) }
+    nodes: &mut Writer<ExpandedNode>,
+)
+    ensures { Wrote nodes.old nodes.new (flat (forms_in (scope_at base.now levels.now depth) items.entry)) }
 {
     let mut left = items;
     while let Some((first, others)) = left.split_first() {
-        push_first(alloc, base, levels, depth, first, nodes)?;
+        push_first(alloc, base, levels, depth, first, nodes);
         left = others;
     }
-    Ok(())
 }
 
 /// Writes one as a form.
@@ -55,9 +54,9 @@ pub fn push_first(
     levels: &Levels,
     depth: u32,
     first: First,
-    nodes: &mut Vec<ExpandedNode>,
-) -> Result<(), Memory>
-    ensures { OnOk result (nodes.new.items ≡ nodes.old.items ++ flat_one (first_form (scope_at base.now levels.now depth) first.entry)) }
+    nodes: &mut Writer<ExpandedNode>,
+)
+    ensures { Wrote nodes.old nodes.new (flat_one (first_form (scope_at base.now levels.now depth) first.entry)) }
 {
     match first {
         First::Leaf(leaf, place) => push_node(
@@ -79,9 +78,9 @@ pub fn push_head(
     depth: u32,
     place: Place,
     items: Items,
-    nodes: &mut Vec<ExpandedNode>,
-) -> Result<(), Memory>
-    ensures { OnOk result (nodes.new.items ≡ nodes.old.items ++ flat_one (first_of place (forms_in (scope_at base.now levels.now depth) items.entry))) }
+    nodes: &mut Writer<ExpandedNode>,
+)
+    ensures { Wrote nodes.old nodes.new (flat_one (first_of place (forms_in (scope_at base.now levels.now depth) items.entry))) }
 {
     match items.split_first() {
         None => push_nil(place, nodes),
@@ -98,9 +97,9 @@ fn push_list(
     depth: u32,
     place: Place,
     under: Items,
-    nodes: &mut Vec<ExpandedNode>,
-) -> Result<(), Memory>
-    ensures { OnOk result (nodes.new.items ≡ nodes.old.items ++ flat_one (listed (scope_at base.now levels.now depth) place under.entry)) }
+    nodes: &mut Writer<ExpandedNode>,
+)
+    ensures { Wrote nodes.old nodes.new (flat_one (listed (scope_at base.now levels.now depth) place under.entry)) }
 {
     match shape_within(alloc, base, levels, depth, place, &under) {
         Ok(shape) => push_shaped(
@@ -113,7 +112,7 @@ fn push_list(
             rest(&under, 1),
             nodes,
         ),
-        Err(memory) => Err(memory),
+        Err(_) => nodes.fill(),
     }
 }
 
@@ -127,9 +126,9 @@ pub fn push_shaped(
     shape: Shape,
     place: Place,
     arguments: Items,
-    nodes: &mut Vec<ExpandedNode>,
-) -> Result<(), Memory>
-    ensures { OnOk result (nodes.new.items ≡ nodes.old.items ++ flat_one (list_form (scope_at base.now levels.now depth) place shape (let_variables arguments.entry) (parts_in (scope_at base.now levels.now depth) place arguments.entry))) }
+    nodes: &mut Writer<ExpandedNode>,
+)
+    ensures { Wrote nodes.old nodes.new (flat_one (list_form (scope_at base.now levels.now depth) place shape (let_variables arguments.entry) (parts_in (scope_at base.now levels.now depth) place arguments.entry))) }
 {
     match shape {
         Shape::Wrong(number, at) => push_node(Expanded::Refused(number), at, 0, nodes),
@@ -219,14 +218,14 @@ fn push_over(
     roles: Roles,
     place: Place,
     arguments: Items,
-    nodes: &mut Vec<ExpandedNode>,
-) -> Result<(), Memory>
-    ensures { OnOk result (nodes.new.items ≡ nodes.old.items ++ flat_one (form kind place (by_roles (scope_at base.now levels.now depth) roles 0 arguments.entry))) }
+    nodes: &mut Writer<ExpandedNode>,
+)
+    ensures { Wrote nodes.old nodes.new (flat_one (form kind place (by_roles (scope_at base.now levels.now depth) roles 0 arguments.entry))) }
 {
     // The law that they are few.
     arguments.are_few();
     let parts = parts_of(roles, arguments.count());
-    push_form(kind, place, parts, nodes)?;
+    push_form(kind, place, parts, nodes);
     push_by_roles(alloc, base, levels, depth, roles, arguments, nodes)
 }
 
@@ -239,9 +238,9 @@ pub fn push_by_roles(
     depth: u32,
     roles: Roles,
     items: Items,
-    nodes: &mut Vec<ExpandedNode>,
-) -> Result<(), Memory>
-    ensures { OnOk result (nodes.new.items ≡ nodes.old.items ++ flat (by_roles (scope_at base.now levels.now depth) roles 0 items.entry)) }
+    nodes: &mut Writer<ExpandedNode>,
+)
+    ensures { Wrote nodes.old nodes.new (flat (by_roles (scope_at base.now levels.now depth) roles 0 items.entry)) }
 {
     // The law that they are few.
     items.are_few();
@@ -249,14 +248,13 @@ pub fn push_by_roles(
     let mut left = items;
     while let Some((first, others)) = left.split_first() {
         match role_at(roles, index) {
-            Role::Value => push_first(alloc, base, levels, depth, first, nodes)?,
-            Role::Place => push_placed(alloc, base, levels, depth, first, nodes)?,
+            Role::Value => push_first(alloc, base, levels, depth, first, nodes),
+            Role::Place => push_placed(alloc, base, levels, depth, first, nodes),
             Role::Skipped => (),
         }
         index += 1;
         left = others;
     }
-    Ok(())
 }
 
 /// Writes one that stands in a function's place.
@@ -267,9 +265,9 @@ fn push_placed(
     levels: &Levels,
     depth: u32,
     first: First,
-    nodes: &mut Vec<ExpandedNode>,
-) -> Result<(), Memory>
-    ensures { OnOk result (nodes.new.items ≡ nodes.old.items ++ flat_one (first_placed (scope_at base.now levels.now depth) first.entry)) }
+    nodes: &mut Writer<ExpandedNode>,
+)
+    ensures { Wrote nodes.old nodes.new (flat_one (first_placed (scope_at base.now levels.now depth) first.entry)) }
 {
     match first {
         First::Leaf(leaf, place) => {
@@ -295,16 +293,16 @@ fn push_placed_list(
     depth: u32,
     place: Place,
     under: Items,
-    nodes: &mut Vec<ExpandedNode>,
-) -> Result<(), Memory>
-    ensures { OnOk result (nodes.new.items ≡ nodes.old.items ++ flat_one (placed_in (scope_at base.now levels.now depth) place under.entry)) }
+    nodes: &mut Writer<ExpandedNode>,
+)
+    ensures { Wrote nodes.old nodes.new (flat_one (placed_in (scope_at base.now levels.now depth) place under.entry)) }
 {
     let arguments = rest(&under, 1);
     match placed_within(alloc, base, levels, depth, place, &under) {
         Ok(Placed::Made) => push_lambda(alloc, base, levels, depth, place, arguments, nodes),
         Ok(Placed::Inner) => push_inner(alloc, base, levels, depth, arguments, nodes),
         Ok(Placed::Other(kind)) => push_node(kind, place, 0, nodes),
-        Err(memory) => Err(memory),
+        Err(_) => nodes.fill(),
     }
 }
 
@@ -316,9 +314,9 @@ fn push_inner(
     levels: &Levels,
     depth: u32,
     arguments: Items,
-    nodes: &mut Vec<ExpandedNode>,
-) -> Result<(), Memory>
-    ensures { OnOk result (nodes.new.items ≡ nodes.old.items ++ flat_one (placed_first (scope_at base.now levels.now depth) arguments.entry)) }
+    nodes: &mut Writer<ExpandedNode>,
+)
+    ensures { Wrote nodes.old nodes.new (flat_one (placed_first (scope_at base.now levels.now depth) arguments.entry)) }
 {
     let Some((first, _)) = arguments.split_first() else {
         return push_node(Expanded::Refused(BAD_FORM), Place(0), 0, nodes);
@@ -340,22 +338,26 @@ fn push_lambda(
     depth: u32,
     place: Place,
     arguments: Items,
-    nodes: &mut Vec<ExpandedNode>,
-) -> Result<(), Memory>
-    ensures { OnOk result (nodes.new.items ≡ nodes.old.items ++ flat_one (lambda_form (scope_at base.now levels.now depth) place (parameters_of arguments.entry) (function_body_in (scope_within (scope_at base.now levels.now depth) (parameters_of arguments.entry)) 1 arguments.entry))) }
+    nodes: &mut Writer<ExpandedNode>,
+)
+    ensures { Wrote nodes.old nodes.new (flat_one (lambda_form (scope_at base.now levels.now depth) place (parameters_of arguments.entry) (function_body_in (scope_within (scope_at base.now levels.now depth) (parameters_of arguments.entry)) 1 arguments.entry))) }
 {
-    let parameters = parameters_in(alloc, &arguments)?;
-    let open = received_within(alloc, base, levels, depth, parameters.as_slice())?;
+    let Ok(parameters) = parameters_in(alloc, &arguments) else {
+        return nodes.fill();
+    };
+    let Ok(open) = received_within(alloc, base, levels, depth, parameters.as_slice()) else {
+        return nodes.fill();
+    };
     let body = function_body_of(base.symbols, rest(&arguments, 1));
     let count = open.depth;
     let parts = special_parts(base.specials, parameters.as_slice(), body.count());
-    push_node(Expanded::Lambda(count), place, parts, nodes)?;
+    push_node(Expanded::Lambda(count), place, parts, nodes);
     push_specials(
         base.specials,
         place,
         parameters.as_slice(),
         body.count(),
         nodes,
-    )?;
+    );
     push_all(alloc, base, &open.levels, open.depth, body, nodes)
 }

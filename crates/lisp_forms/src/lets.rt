@@ -1,4 +1,5 @@
-ghost use Rattle.std.specs.Prelude.{◌≡◌, ◌++◌, ◌<◌, ◌^◌, IfOk, OnOk, Some, length};
+ghost use Rattle.std.specs.Prelude.{◌≡◌, ◌<◌, ◌^◌, IfOk, Some, length};
+ghost use Rattle.lisp_base.specs.Writing.{Wrote};
 ghost use Rattle.form_shapes.specs.Bindings.{bound_in, opened as opened_of};
 ghost use Rattle.form_shapes.specs.Contexts.{scope_at};
 ghost use Rattle.form_shapes.specs.One.{let_variables};
@@ -19,6 +20,7 @@ use form_shapes::single::rest;
 use form_shapes::within::{open_within, opened_within};
 use lisp_base::id::{Place, SymbolId};
 use lisp_base::memory::Memory;
+use lisp_base::writer::Writer;
 use lisp_data::items::{First, Items};
 use lisp_program::form::CoreKind;
 use std::alloc::Global;
@@ -32,22 +34,26 @@ pub fn push_let(
     depth: u32,
     place: Place,
     arguments: Items,
-    nodes: &mut Vec<ExpandedNode>,
-) -> Result<(), Memory>
-    ensures { OnOk result (nodes.new.items ≡ nodes.old.items ++ flat_one (let_form (scope_at base.now levels.now depth) place (let_variables arguments.entry) (values_first (scope_at base.now levels.now depth) arguments.entry) (body_in (opened_of (scope_at base.now levels.now depth) (let_variables arguments.entry)) 1 arguments.entry))) }
+    nodes: &mut Writer<ExpandedNode>,
+)
+    ensures { Wrote nodes.old nodes.new (flat_one (let_form (scope_at base.now levels.now depth) place (let_variables arguments.entry) (values_first (scope_at base.now levels.now depth) arguments.entry) (body_in (opened_of (scope_at base.now levels.now depth) (let_variables arguments.entry)) 1 arguments.entry))) }
 {
-    let variables = variables_in(alloc, &arguments)?;
-    let open = opened_within(alloc, base, levels, depth, variables.as_slice())?;
+    let Ok(variables) = variables_in(alloc, &arguments) else {
+        return nodes.fill();
+    };
+    let Ok(open) = opened_within(alloc, base, levels, depth, variables.as_slice()) else {
+        return nodes.fill();
+    };
     let body = body_of(base.symbols, rest(&arguments, 1));
     if variables.is_empty() {
-        push_form(CoreKind::Progn, place, body.count(), nodes)?;
+        push_form(CoreKind::Progn, place, body.count(), nodes);
         return push_all(alloc, base, &open.levels, open.depth, body, nodes);
     }
     let bindings = items_first(&arguments);
     // The law that they are few.
     bindings.are_few();
-    push_form(CoreKind::Let, place, bindings.count() + 1, nodes)?;
-    push_values(alloc, base, levels, depth, bindings, nodes)?;
+    push_form(CoreKind::Let, place, bindings.count() + 1, nodes);
+    push_values(alloc, base, levels, depth, bindings, nodes);
     push_binds(
         base,
         levels,
@@ -56,7 +62,7 @@ pub fn push_let(
         variables.as_slice(),
         body.count(),
         nodes,
-    )?;
+    );
     push_all(alloc, base, &open.levels, open.depth, body, nodes)
 }
 
@@ -68,16 +74,15 @@ fn push_values(
     levels: &Levels,
     depth: u32,
     bindings: Items,
-    nodes: &mut Vec<ExpandedNode>,
-) -> Result<(), Memory>
-    ensures { OnOk result (nodes.new.items ≡ nodes.old.items ++ flat (values_in (scope_at base.now levels.now depth) bindings.entry)) }
+    nodes: &mut Writer<ExpandedNode>,
+)
+    ensures { Wrote nodes.old nodes.new (flat (values_in (scope_at base.now levels.now depth) bindings.entry)) }
 {
     let mut left = bindings;
     while let Some((first, others)) = left.split_first() {
-        push_bound(alloc, base, levels, depth, first, nodes)?;
+        push_bound(alloc, base, levels, depth, first, nodes);
         left = others;
     }
-    Ok(())
 }
 
 /// Writes the value of a binding.
@@ -88,9 +93,9 @@ fn push_bound(
     levels: &Levels,
     depth: u32,
     first: First,
-    nodes: &mut Vec<ExpandedNode>,
-) -> Result<(), Memory>
-    ensures { OnOk result (nodes.new.items ≡ nodes.old.items ++ flat_one (bound_value (scope_at base.now levels.now depth) first.entry)) }
+    nodes: &mut Writer<ExpandedNode>,
+)
+    ensures { Wrote nodes.old nodes.new (flat_one (bound_value (scope_at base.now levels.now depth) first.entry)) }
 {
     match first {
         First::Leaf(_, place) => push_nil(place, nodes),
@@ -125,19 +130,21 @@ fn push_binds(
     place: Place,
     variables: &[SymbolId],
     body: u32,
-    nodes: &mut Vec<ExpandedNode>,
-) -> Result<(), Memory>
+    nodes: &mut Writer<ExpandedNode>,
+)
     requires { length variables.now < 2 ^ 30 }
-    ensures { OnOk result (nodes.new.items ≡ nodes.old.items ++ bind_nodes (scope_at base.now levels.now depth) place body variables.now) }
+    ensures { Wrote nodes.old nodes.new (bind_nodes (scope_at base.now levels.now depth) place body variables.now) }
 {
     let mut number = depth;
     for (index, variable) in variables.iter().enumerate() {
         let above = (variables.len() - 1 - index) as u32;
         let kind = bind_kind(base.specials, number, *variable, above);
-        push_form(kind, place, forms_under(above, body), nodes)?;
-        number = number_behind(base.specials, number, *variable)?;
+        push_form(kind, place, forms_under(above, body), nodes);
+        let Ok(behind) = number_behind(base.specials, number, *variable) else {
+            return nodes.fill();
+        };
+        number = behind;
     }
-    Ok(())
 }
 
 /// How many forms are under a binding with so many others under it, the last of which has this many.
@@ -166,15 +173,19 @@ pub fn push_let_star(
     depth: u32,
     place: Place,
     arguments: Items,
-    nodes: &mut Vec<ExpandedNode>,
-) -> Result<(), Memory>
-    ensures { OnOk result (nodes.new.items ≡ nodes.old.items ++ flat_one (let_star_form (scope_at base.now levels.now depth) place (let_variables arguments.entry) (turn_first (scope_at base.now levels.now depth) arguments.entry) (body_in (opened_of (scope_at base.now levels.now depth) (let_variables arguments.entry)) 1 arguments.entry))) }
+    nodes: &mut Writer<ExpandedNode>,
+)
+    ensures { Wrote nodes.old nodes.new (flat_one (let_star_form (scope_at base.now levels.now depth) place (let_variables arguments.entry) (turn_first (scope_at base.now levels.now depth) arguments.entry) (body_in (opened_of (scope_at base.now levels.now depth) (let_variables arguments.entry)) 1 arguments.entry))) }
 {
-    let variables = variables_in(alloc, &arguments)?;
-    let open = opened_within(alloc, base, levels, depth, variables.as_slice())?;
+    let Ok(variables) = variables_in(alloc, &arguments) else {
+        return nodes.fill();
+    };
+    let Ok(open) = opened_within(alloc, base, levels, depth, variables.as_slice()) else {
+        return nodes.fill();
+    };
     let body = body_of(base.symbols, rest(&arguments, 1));
     if variables.is_empty() {
-        push_form(CoreKind::Progn, place, body.count(), nodes)?;
+        push_form(CoreKind::Progn, place, body.count(), nodes);
         return push_all(alloc, base, &open.levels, open.depth, body, nodes);
     }
     let bindings = items_first(&arguments);
@@ -188,7 +199,7 @@ pub fn push_let_star(
         bindings,
         body.count(),
         nodes,
-    )?;
+    );
     push_all(alloc, base, &open.levels, open.depth, body, nodes)
 }
 
@@ -203,24 +214,27 @@ fn push_turns(
     variables: &[SymbolId],
     bindings: Items,
     body: u32,
-    nodes: &mut Vec<ExpandedNode>,
-) -> Result<(), Memory>
-    ensures { OnOk result (bound_in bindings.entry ≡ Some variables.now → nodes.new.items ≡ nodes.old.items ++ turn_nodes (scope_at base.now levels.now depth) place body bindings.entry) }
+    nodes: &mut Writer<ExpandedNode>,
+)
+    ensures { bound_in bindings.entry ≡ Some variables.now → Wrote nodes.old nodes.new (turn_nodes (scope_at base.now levels.now depth) place body bindings.entry) }
 {
-    let mut open = open_within(alloc, base, levels, depth)?;
+    let Ok(mut open) = open_within(alloc, base, levels, depth) else {
+        return nodes.fill();
+    };
     let mut left = bindings;
     for variable in variables {
         let Some((first, others)) = left.split_first() else {
-            return Ok(());
+            return;
         };
-        push_form(CoreKind::Let, place, 2, nodes)?;
-        push_bound(alloc, base, &open.levels, open.depth, first, nodes)?;
+        push_form(CoreKind::Let, place, 2, nodes);
+        push_bound(alloc, base, &open.levels, open.depth, first, nodes);
         let kind = bind_kind(base.specials, open.depth, *variable, 0);
-        push_form(kind, place, turn_parts(&others, body), nodes)?;
-        open_variable(base.specials, *variable, &mut open)?;
+        push_form(kind, place, turn_parts(&others, body), nodes);
+        if open_variable(base.specials, *variable, &mut open).is_err() {
+            return nodes.fill();
+        }
         left = others;
     }
-    Ok(())
 }
 
 /// How many forms are under a binding of a `let*` with these others behind it, where its body has so many.

@@ -1,4 +1,5 @@
-ghost use Rattle.std.specs.Prelude.{◌≡◌, ◌++◌, IfOk, OnOk};
+ghost use Rattle.std.specs.Prelude.{◌≡◌, IfOk};
+ghost use Rattle.lisp_base.specs.Writing.{Wrote};
 ghost use Rattle.form_shapes.specs.Contexts.{scope_at};
 ghost use Rattle.form_shapes.specs.Scopes.{deeper};
 ghost use Rattle.lisp_forms.specs.Expansion.{body_in, forms_in, in_lock, within_first};
@@ -20,6 +21,7 @@ use lisp_base::condition::{Class, Condition};
 use lisp_base::id::{Place, SymbolId};
 use lisp_base::memory::Memory;
 use lisp_base::value::Value;
+use lisp_base::writer::Writer;
 use lisp_data::items::Items;
 use lisp_program::form::CoreKind;
 use lisp_program::function::Service;
@@ -50,14 +52,14 @@ fn lock_at(depth: u32) -> Result<Lock, Memory>
 }
 
 /// Writes what binds the hidden variables of a lock and begins its region, behind the mutex.
-fn push_region(lock: &Lock, place: Place, nodes: &mut Vec<ExpandedNode>) -> Result<(), Memory>
-    ensures { OnOk result (nodes.new.items ≡ nodes.old.items ++ region_nodes lock.now place) }
+fn push_region(lock: &Lock, place: Place, nodes: &mut Writer<ExpandedNode>)
+    ensures { Wrote nodes.old nodes.new (region_nodes lock.now place) }
 {
-    push_nil(place, nodes)?;
-    push_form(CoreKind::BindLocal(lock.mutex, 1), place, 1, nodes)?;
-    push_form(CoreKind::BindLocal(lock.grabbed, 0), place, 1, nodes)?;
-    push_form(CoreKind::WithoutInterrupts(lock.region), place, 1, nodes)?;
-    push_form(CoreKind::UnwindProtect, place, 2, nodes)?;
+    push_nil(place, nodes);
+    push_form(CoreKind::BindLocal(lock.mutex, 1), place, 1, nodes);
+    push_form(CoreKind::BindLocal(lock.grabbed, 0), place, 1, nodes);
+    push_form(CoreKind::WithoutInterrupts(lock.region), place, 1, nodes);
+    push_form(CoreKind::UnwindProtect, place, 2, nodes);
     push_form(CoreKind::If, place, 3, nodes)
 }
 
@@ -68,14 +70,14 @@ fn push_grab(
     timeout: bool,
     operands: u32,
     place: Place,
-    nodes: &mut Vec<ExpandedNode>,
-) -> Result<(), Memory>
-    ensures { OnOk result (nodes.new.items ≡ nodes.old.items ++ grab_nodes lock.now waitp timeout operands place) }
+    nodes: &mut Writer<ExpandedNode>,
+)
+    ensures { Wrote nodes.old nodes.new (grab_nodes lock.now waitp timeout operands place) }
 {
     let service = Service::GrabMutex { waitp, timeout };
-    push_form(CoreKind::SetLocal(lock.grabbed), place, 1, nodes)?;
-    push_form(CoreKind::AllowWithInterrupts(lock.region), place, 1, nodes)?;
-    push_form(CoreKind::Serve(service), place, operands, nodes)?;
+    push_form(CoreKind::SetLocal(lock.grabbed), place, 1, nodes);
+    push_form(CoreKind::AllowWithInterrupts(lock.region), place, 1, nodes);
+    push_form(CoreKind::Serve(service), place, operands, nodes);
     push_local(lock.mutex, place, nodes)
 }
 
@@ -89,34 +91,34 @@ fn push_locked_body(
     lock: &Lock,
     place: Place,
     body: Items,
-    nodes: &mut Vec<ExpandedNode>,
-) -> Result<(), Memory>
-    ensures { OnOk result (nodes.new.items ≡ nodes.old.items ++ locked_nodes lock.now place (forms_in (scope_at base.now levels.now depth) body.entry)) }
+    nodes: &mut Writer<ExpandedNode>,
+)
+    ensures { Wrote nodes.old nodes.new (locked_nodes lock.now place (forms_in (scope_at base.now levels.now depth) body.entry)) }
 {
-    push_form(CoreKind::Progn, place, 1, nodes)?;
-    push_form(CoreKind::AllowWithInterrupts(lock.region), place, 1, nodes)?;
-    push_form(CoreKind::WithInterrupts, place, body.count(), nodes)?;
-    push_all(alloc, base, levels, depth, body, nodes)?;
-    push_nil(place, nodes)?;
+    push_form(CoreKind::Progn, place, 1, nodes);
+    push_form(CoreKind::AllowWithInterrupts(lock.region), place, 1, nodes);
+    push_form(CoreKind::WithInterrupts, place, body.count(), nodes);
+    push_all(alloc, base, levels, depth, body, nodes);
+    push_nil(place, nodes);
     push_release(lock, place, nodes)
 }
 
 /// Writes the cleanup of a lock: the mutex is released where it was grabbed.
-fn push_release(lock: &Lock, place: Place, nodes: &mut Vec<ExpandedNode>) -> Result<(), Memory>
-    ensures { OnOk result (nodes.new.items ≡ nodes.old.items ++ flat_one (Rows.release_form lock.now.mutex lock.now.grabbed place)) }
+fn push_release(lock: &Lock, place: Place, nodes: &mut Writer<ExpandedNode>)
+    ensures { Wrote nodes.old nodes.new (flat_one (Rows.release_form lock.now.mutex lock.now.grabbed place)) }
 {
     let service = Service::ReleaseMutex { if_not_owner: true };
-    push_form(CoreKind::If, place, 3, nodes)?;
-    push_local(lock.grabbed, place, nodes)?;
-    push_form(CoreKind::Progn, place, 1, nodes)?;
-    push_form(CoreKind::Serve(service), place, 2, nodes)?;
-    push_local(lock.mutex, place, nodes)?;
+    push_form(CoreKind::If, place, 3, nodes);
+    push_local(lock.grabbed, place, nodes);
+    push_form(CoreKind::Progn, place, 1, nodes);
+    push_form(CoreKind::Serve(service), place, 2, nodes);
+    push_local(lock.mutex, place, nodes);
     push_form(
         CoreKind::Constant(Value::symbol(SymbolId(3))),
         place,
         0,
         nodes,
-    )?;
+    );
     push_nil(place, nodes)
 }
 
@@ -131,20 +133,22 @@ pub fn push_mutex(
     timeout: bool,
     place: Place,
     arguments: Items,
-    nodes: &mut Vec<ExpandedNode>,
-) -> Result<(), Memory>
-    ensures { OnOk result (nodes.new.items ≡ nodes.old.items ++ flat_one (Rows.mutex_form (scope_at base.now levels.now depth).depth place waitp timeout (first_of place (within_first (scope_at base.now levels.now depth) (Roles.From 0) arguments.entry)) (within_first (in_lock (scope_at base.now levels.now depth)) (Roles.Values 1) arguments.entry) (body_in (in_lock (scope_at base.now levels.now depth)) 1 arguments.entry))) }
+    nodes: &mut Writer<ExpandedNode>,
+)
+    ensures { Wrote nodes.old nodes.new (flat_one (Rows.mutex_form (scope_at base.now levels.now depth).depth place waitp timeout (first_of place (within_first (scope_at base.now levels.now depth) (Roles.From 0) arguments.entry)) (within_first (in_lock (scope_at base.now levels.now depth)) (Roles.Values 1) arguments.entry) (body_in (in_lock (scope_at base.now levels.now depth)) 1 arguments.entry))) }
 {
-    let lock = lock_at(depth)?;
+    let Ok(lock) = lock_at(depth) else {
+        return nodes.fill();
+    };
     let items = items_first(&arguments);
     let operands = items_first(&arguments);
     // The law that they are few.
     operands.are_few();
     let count = parts_of(Roles::Values(1), operands.count()) + 1;
-    push_form(CoreKind::Let, place, 3, nodes)?;
-    push_head(alloc, base, levels, depth, place, items, nodes)?;
-    push_region(&lock, place, nodes)?;
-    push_grab(&lock, waitp, timeout, count, place, nodes)?;
+    push_form(CoreKind::Let, place, 3, nodes);
+    push_head(alloc, base, levels, depth, place, items, nodes);
+    push_region(&lock, place, nodes);
+    push_grab(&lock, waitp, timeout, count, place, nodes);
     push_by_roles(
         alloc,
         base,
@@ -153,7 +157,7 @@ pub fn push_mutex(
         Roles::Values(1),
         operands,
         nodes,
-    )?;
+    );
     let body = body_of(base.symbols, rest(&arguments, 1));
     push_locked_body(alloc, base, levels, lock.inside, &lock, place, body, nodes)
 }
@@ -167,12 +171,14 @@ pub fn push_lock(
     depth: u32,
     place: Place,
     arguments: Items,
-    nodes: &mut Vec<ExpandedNode>,
-) -> Result<(), Memory>
-    ensures { OnOk result (nodes.new.items ≡ nodes.old.items ++ flat_one (Rows.lock_form (scope_at base.now levels.now depth).depth place (first_of place (within_first (scope_at base.now levels.now depth) (Roles.From 0) arguments.entry)) (body_in (in_lock (scope_at base.now levels.now depth)) 1 arguments.entry))) }
+    nodes: &mut Writer<ExpandedNode>,
+)
+    ensures { Wrote nodes.old nodes.new (flat_one (Rows.lock_form (scope_at base.now levels.now depth).depth place (first_of place (within_first (scope_at base.now levels.now depth) (Roles.From 0) arguments.entry)) (body_in (in_lock (scope_at base.now levels.now depth)) 1 arguments.entry))) }
 {
-    let lock = lock_at(depth)?;
-    push_form(CoreKind::Let, place, 3, nodes)?;
+    let Ok(lock) = lock_at(depth) else {
+        return nodes.fill();
+    };
+    push_form(CoreKind::Let, place, 3, nodes);
     push_head(
         alloc,
         base,
@@ -181,30 +187,30 @@ pub fn push_lock(
         place,
         items_first(&arguments),
         nodes,
-    )?;
-    push_region(&lock, place, nodes)?;
-    push_held(&lock, place, nodes)?;
-    push_grab(&lock, false, false, 1, place, nodes)?;
+    );
+    push_region(&lock, place, nodes);
+    push_held(&lock, place, nodes);
+    push_grab(&lock, false, false, 1, place, nodes);
     let body = body_of(base.symbols, rest(&arguments, 1));
     push_locked_body(alloc, base, levels, lock.inside, &lock, place, body, nodes)
 }
 
 /// Writes whether the thread has the mutex already, in front of what grabs it where it has not.
-fn push_held(lock: &Lock, place: Place, nodes: &mut Vec<ExpandedNode>) -> Result<(), Memory>
-    ensures { OnOk result (nodes.new.items ≡ nodes.old.items ++ either_nodes lock.now.inside place (Rows.held_form lock.now.mutex place)) }
+fn push_held(lock: &Lock, place: Place, nodes: &mut Writer<ExpandedNode>)
+    ensures { Wrote nodes.old nodes.new (either_nodes lock.now.inside place (Rows.held_form lock.now.mutex place)) }
 {
-    push_form(CoreKind::Let, place, 2, nodes)?;
-    push_form(CoreKind::Serve(Service::HoldingMutex), place, 1, nodes)?;
-    push_local(lock.mutex, place, nodes)?;
-    push_form(CoreKind::BindLocal(lock.inside, 0), place, 1, nodes)?;
-    push_form(CoreKind::If, place, 3, nodes)?;
-    push_local(lock.inside, place, nodes)?;
+    push_form(CoreKind::Let, place, 2, nodes);
+    push_form(CoreKind::Serve(Service::HoldingMutex), place, 1, nodes);
+    push_local(lock.mutex, place, nodes);
+    push_form(CoreKind::BindLocal(lock.inside, 0), place, 1, nodes);
+    push_form(CoreKind::If, place, 3, nodes);
+    push_local(lock.inside, place, nodes);
     push_local(lock.inside, place, nodes)
 }
 
 /// Writes the timer of a `with-timeout`, whose function signals `timeout`.
-fn push_timer(place: Place, nodes: &mut Vec<ExpandedNode>) -> Result<(), Memory>
-    ensures { OnOk result (nodes.new.items ≡ nodes.old.items ++ flat_one (Rows.timer_form place)) }
+fn push_timer(place: Place, nodes: &mut Writer<ExpandedNode>)
+    ensures { Wrote nodes.old nodes.new (flat_one (Rows.timer_form place)) }
 {
     let service = Service::MakeTimer {
         name: false,
@@ -214,8 +220,8 @@ fn push_timer(place: Place, nodes: &mut Vec<ExpandedNode>) -> Result<(), Memory>
         class: Class::Timeout,
         text: None,
     };
-    push_form(CoreKind::Serve(service), place, 1, nodes)?;
-    push_node(Expanded::Lambda(0), place, 1, nodes)?;
+    push_form(CoreKind::Serve(service), place, 1, nodes);
+    push_node(Expanded::Lambda(0), place, 1, nodes);
     push_form(CoreKind::Signal(condition), place, 0, nodes)
 }
 
@@ -228,25 +234,27 @@ pub fn push_timeout(
     depth: u32,
     place: Place,
     arguments: Items,
-    nodes: &mut Vec<ExpandedNode>,
-) -> Result<(), Memory>
-    ensures { OnOk result (nodes.new.items ≡ nodes.old.items ++ flat_one (Rows.timeout_form (scope_at base.now levels.now depth).depth place (first_of place (forms_in (deeper (scope_at base.now levels.now depth)) arguments.entry)) (others (forms_in (deeper (scope_at base.now levels.now depth)) arguments.entry)))) }
+    nodes: &mut Writer<ExpandedNode>,
+)
+    ensures { Wrote nodes.old nodes.new (flat_one (Rows.timeout_form (scope_at base.now levels.now depth).depth place (first_of place (forms_in (deeper (scope_at base.now levels.now depth)) arguments.entry)) (others (forms_in (deeper (scope_at base.now levels.now depth)) arguments.entry)))) }
 {
     let timer = depth;
-    let inner = next(timer)?;
+    let Ok(inner) = next(timer) else {
+        return nodes.fill();
+    };
     let body = rest(&arguments, 1);
     let service = Service::ScheduleTimer {
         repeat_interval: false,
         catch_up: false,
     };
-    push_form(CoreKind::Let, place, 2, nodes)?;
-    push_timer(place, nodes)?;
-    push_form(CoreKind::BindLocal(timer, 0), place, 2, nodes)?;
-    push_form(CoreKind::Serve(service), place, 2, nodes)?;
-    push_local(timer, place, nodes)?;
-    push_head(alloc, base, levels, inner, place, arguments, nodes)?;
-    push_form(CoreKind::UnwindProtect, place, 2, nodes)?;
-    push_progn(alloc, base, levels, inner, place, body, nodes)?;
-    push_form(CoreKind::Serve(Service::UnscheduleTimer), place, 1, nodes)?;
+    push_form(CoreKind::Let, place, 2, nodes);
+    push_timer(place, nodes);
+    push_form(CoreKind::BindLocal(timer, 0), place, 2, nodes);
+    push_form(CoreKind::Serve(service), place, 2, nodes);
+    push_local(timer, place, nodes);
+    push_head(alloc, base, levels, inner, place, arguments, nodes);
+    push_form(CoreKind::UnwindProtect, place, 2, nodes);
+    push_progn(alloc, base, levels, inner, place, body, nodes);
+    push_form(CoreKind::Serve(Service::UnscheduleTimer), place, 1, nodes);
     push_local(timer, place, nodes)
 }

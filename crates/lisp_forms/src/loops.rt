@@ -1,4 +1,5 @@
-ghost use Rattle.std.specs.Prelude.{◌≡◌, ◌++◌, IfOk, OnOk};
+ghost use Rattle.std.specs.Prelude.{◌≡◌, IfOk};
+ghost use Rattle.lisp_base.specs.Writing.{Wrote};
 ghost use Rattle.form_shapes.specs.Contexts.{scope_at, with_opened};
 ghost use Rattle.form_shapes.specs.Scopes.{inside as inside_of};
 ghost use Rattle.lisp_forms.specs.Expansion.{body_in, in_dotimes, in_turn, result_of, within_first};
@@ -20,6 +21,7 @@ use form_shapes::single::rest;
 use form_shapes::within::level_within;
 use lisp_base::id::{Place, SymbolId};
 use lisp_base::memory::Memory;
+use lisp_base::writer::Writer;
 use lisp_data::items::Items;
 use lisp_program::form::CoreKind;
 use lisp_program::function::Primitive;
@@ -34,18 +36,23 @@ pub fn push_loop(
     depth: u32,
     place: Place,
     arguments: Items,
-    nodes: &mut Vec<ExpandedNode>,
-) -> Result<(), Memory>
-    ensures { OnOk result (nodes.new.items ≡ nodes.old.items ++ flat_one (Rows.loop_form (scope_at base.now levels.now depth).depth place (body_in (inside_of (scope_at base.now levels.now depth) (Level.Block 0)) 0 arguments.entry))) }
+    nodes: &mut Writer<ExpandedNode>,
+)
+    ensures { Wrote nodes.old nodes.new (flat_one (Rows.loop_form (scope_at base.now levels.now depth).depth place (body_in (inside_of (scope_at base.now levels.now depth) (Level.Block 0)) 0 arguments.entry))) }
 {
-    let open = level_within(alloc, base, levels, depth, Level::Block(SymbolId::nil()))?;
+    let Ok(open) = level_within(alloc, base, levels, depth, Level::Block(SymbolId::nil())) else {
+        return nodes.fill();
+    };
     let body = body_of(base.symbols, arguments);
     // The law that they are few.
     body.are_few();
-    let mut turns = Vec::new(alloc);
-    push_form(CoreKind::While, place, body.count() + 1, &mut turns)?;
-    push_true(place, &mut turns)?;
-    push_all(alloc, base, &open.levels, open.depth, body, &mut turns)?;
+    let mut turns = Writer::new(alloc);
+    push_form(CoreKind::While, place, body.count() + 1, &mut turns);
+    push_true(place, &mut turns);
+    push_all(alloc, base, &open.levels, open.depth, body, &mut turns);
+    let Ok(turns) = turns.finish() else {
+        return nodes.fill();
+    };
     push_blocked(depth, place, 1, turns.as_slice(), nodes)
 }
 
@@ -69,14 +76,16 @@ pub fn push_dotimes(
     variable: SymbolId,
     place: Place,
     arguments: Items,
-    nodes: &mut Vec<ExpandedNode>,
-) -> Result<(), Memory>
-    ensures { OnOk result (nodes.new.items ≡ nodes.old.items ++ flat_one (Rows.dotimes_form (scope_at base.now levels.now depth) place variable (scope_at base.now levels.now depth).depth (second place (within_first (inside_of (scope_at base.now levels.now depth) (Level.Block 0)) (Roles.From 0) arguments.entry)) (body_in (in_turn (scope_at base.now levels.now depth) variable) 1 arguments.entry) (result_of (within_first (in_turn (scope_at base.now levels.now depth) variable) (Roles.From 0) arguments.entry)))) }
+    nodes: &mut Writer<ExpandedNode>,
+)
+    ensures { Wrote nodes.old nodes.new (flat_one (Rows.dotimes_form (scope_at base.now levels.now depth) place variable (scope_at base.now levels.now depth).depth (second place (within_first (inside_of (scope_at base.now levels.now depth) (Level.Block 0)) (Roles.From 0) arguments.entry)) (body_in (in_turn (scope_at base.now levels.now depth) variable) 1 arguments.entry) (result_of (within_first (in_turn (scope_at base.now levels.now depth) variable) (Roles.From 0) arguments.entry)))) }
 {
-    let block = level_within(alloc, base, levels, depth, Level::Block(SymbolId::nil()))?;
+    let Ok(block) = level_within(alloc, base, levels, depth, Level::Block(SymbolId::nil())) else {
+        return nodes.fill();
+    };
     let items = items_first(&arguments);
-    let mut all = Vec::new(alloc);
-    push_form(CoreKind::Let, place, 3, &mut all)?;
+    let mut all = Writer::new(alloc);
+    push_form(CoreKind::Let, place, 3, &mut all);
     push_head(
         alloc,
         base,
@@ -85,11 +94,14 @@ pub fn push_dotimes(
         place,
         rest(&items, 1),
         &mut all,
-    )?;
-    push_number(0, place, &mut all)?;
+    );
+    push_number(0, place, &mut all);
     push_turns(
         alloc, base, levels, depth, variable, place, arguments, &mut all,
-    )?;
+    );
+    let Ok(all) = all.finish() else {
+        return nodes.fill();
+    };
     push_blocked(depth, place, 1, all.as_slice(), nodes)
 }
 
@@ -103,23 +115,31 @@ fn push_turns(
     variable: SymbolId,
     place: Place,
     arguments: Items,
-    nodes: &mut Vec<ExpandedNode>,
-) -> Result<(), Memory>
-    ensures { OnOk result (nodes.new.items ≡ nodes.old.items ++ flat_one (Rows.turns_form (scope_at base.now levels.now depth) place variable (scope_at base.now levels.now depth).depth (body_in (in_turn (scope_at base.now levels.now depth) variable) 1 arguments.entry) (result_of (within_first (in_turn (scope_at base.now levels.now depth) variable) (Roles.From 0) arguments.entry)))) }
+    nodes: &mut Writer<ExpandedNode>,
+)
+    ensures { Wrote nodes.old nodes.new (flat_one (Rows.turns_form (scope_at base.now levels.now depth) place variable (scope_at base.now levels.now depth).depth (body_in (in_turn (scope_at base.now levels.now depth) variable) 1 arguments.entry) (result_of (within_first (in_turn (scope_at base.now levels.now depth) variable) (Roles.From 0) arguments.entry)))) }
 {
-    let mut open = opened_turns(alloc, base, levels, depth)?;
-    let limit = next(depth)?;
-    let done = next(limit)?;
+    let Ok(mut open) = opened_turns(alloc, base, levels, depth) else {
+        return nodes.fill();
+    };
+    let Ok(limit) = next(depth) else {
+        return nodes.fill();
+    };
+    let Ok(done) = next(limit) else {
+        return nodes.fill();
+    };
     let kind = bind_kind(base.specials, open.depth, variable, 0);
-    open_variable(base.specials, variable, &mut open)?;
+    if open_variable(base.specials, variable, &mut open).is_err() {
+        return nodes.fill();
+    }
     let body = body_of(base.symbols, rest(&arguments, 1));
-    push_form(CoreKind::BindLocal(limit, 1), place, 1, nodes)?;
-    push_form(CoreKind::BindLocal(done, 0), place, 2, nodes)?;
-    push_form(CoreKind::While, place, 3, nodes)?;
-    push_more(limit, done, place, nodes)?;
-    push_bound_turn(done, &kind, place, body.count(), nodes)?;
-    push_all(alloc, base, &open.levels, open.depth, body, nodes)?;
-    push_step(done, place, nodes)?;
+    push_form(CoreKind::BindLocal(limit, 1), place, 1, nodes);
+    push_form(CoreKind::BindLocal(done, 0), place, 2, nodes);
+    push_form(CoreKind::While, place, 3, nodes);
+    push_more(limit, done, place, nodes);
+    push_bound_turn(done, &kind, place, body.count(), nodes);
+    push_all(alloc, base, &open.levels, open.depth, body, nodes);
+    push_step(done, place, nodes);
     push_result(
         alloc,
         base,
@@ -134,26 +154,21 @@ fn push_turns(
 }
 
 /// Writes whether there are more turns.
-fn push_more(
-    limit: u32,
-    done: u32,
-    place: Place,
-    nodes: &mut Vec<ExpandedNode>,
-) -> Result<(), Memory>
-    ensures { OnOk result (nodes.new.items ≡ nodes.old.items ++ flat_one (Rows.more_form place limit done)) }
+fn push_more(limit: u32, done: u32, place: Place, nodes: &mut Writer<ExpandedNode>)
+    ensures { Wrote nodes.old nodes.new (flat_one (Rows.more_form place limit done)) }
 {
-    push_form(CoreKind::Apply(Primitive::Less), place, 2, nodes)?;
-    push_local(done, place, nodes)?;
+    push_form(CoreKind::Apply(Primitive::Less), place, 2, nodes);
+    push_local(done, place, nodes);
     push_local(limit, place, nodes)
 }
 
 /// Writes that one more turn is done.
-fn push_step(done: u32, place: Place, nodes: &mut Vec<ExpandedNode>) -> Result<(), Memory>
-    ensures { OnOk result (nodes.new.items ≡ nodes.old.items ++ flat_one (Rows.step_form place done)) }
+fn push_step(done: u32, place: Place, nodes: &mut Writer<ExpandedNode>)
+    ensures { Wrote nodes.old nodes.new (flat_one (Rows.step_form place done)) }
 {
-    push_form(CoreKind::SetLocal(done), place, 1, nodes)?;
-    push_form(CoreKind::Apply(Primitive::Add), place, 2, nodes)?;
-    push_local(done, place, nodes)?;
+    push_form(CoreKind::SetLocal(done), place, 1, nodes);
+    push_form(CoreKind::Apply(Primitive::Add), place, 2, nodes);
+    push_local(done, place, nodes);
     push_number(1, place, nodes)
 }
 
@@ -163,12 +178,12 @@ fn push_bound_turn(
     kind: &CoreKind,
     place: Place,
     body: u32,
-    nodes: &mut Vec<ExpandedNode>,
-) -> Result<(), Memory>
-    ensures { OnOk result (nodes.new.items ≡ nodes.old.items ++ turn_head place done kind.now body) }
+    nodes: &mut Writer<ExpandedNode>,
+)
+    ensures { Wrote nodes.old nodes.new (turn_head place done kind.now body) }
 {
-    push_form(CoreKind::Let, place, 2, nodes)?;
-    push_local(done, place, nodes)?;
+    push_form(CoreKind::Let, place, 2, nodes);
+    push_local(done, place, nodes);
     push_form(*kind, place, body, nodes)
 }
 
@@ -183,14 +198,14 @@ fn push_result(
     kind: &CoreKind,
     place: Place,
     arguments: Items,
-    nodes: &mut Vec<ExpandedNode>,
-) -> Result<(), Memory>
-    ensures { OnOk result (nodes.new.items ≡ nodes.old.items ++ flat_one (Rows.result_form place done kind.now (result_of (within_first (scope_at base.now levels.now depth) (Roles.From 0) arguments.entry)))) }
+    nodes: &mut Writer<ExpandedNode>,
+)
+    ensures { Wrote nodes.old nodes.new (flat_one (Rows.result_form place done kind.now (result_of (within_first (scope_at base.now levels.now depth) (Roles.From 0) arguments.entry)))) }
 {
     let left = rest(&items_first(&arguments), 2);
     if left.count() == 0 {
         return push_nil(place, nodes);
     }
-    push_bound_turn(done, kind, place, 1, nodes)?;
+    push_bound_turn(done, kind, place, 1, nodes);
     push_head(alloc, base, levels, depth, place, left, nodes)
 }

@@ -1,5 +1,6 @@
-ghost use Rattle.std.specs.Prelude.{◌≡◌, ◌++◌, ℕ, OnOk};
+ghost use Rattle.std.specs.Prelude.{◌≡◌, ℕ};
 ghost use Rattle.lisp_base.specs.Forest.{count_of, joined};
+ghost use Rattle.lisp_base.specs.Writing.{Wrote};
 ghost use Rattle.form_shapes.specs.Contexts.{scope_at};
 ghost use Rattle.form_shapes.specs.One.{place_by as place_of, symbol_by as symbol_of};
 ghost use Rattle.form_shapes.specs.Scopes.{Scope, deeper, target_in};
@@ -24,8 +25,8 @@ use form_shapes::single::{is_list, place_by, rest};
 use form_shapes::within::target_within;
 use lisp_base::condition::Class;
 use lisp_base::id::{FunctionName, Place};
-use lisp_base::memory::Memory;
 use lisp_base::value::Value;
+use lisp_base::writer::Writer;
 use lisp_data::items::{First, Items};
 use lisp_program::form::CoreKind;
 use lisp_program::function::{Primitive, Service};
@@ -42,15 +43,15 @@ pub fn push_over_nil(
     roles: Roles,
     place: Place,
     arguments: Items,
-    nodes: &mut Vec<ExpandedNode>,
-) -> Result<(), Memory>
-    ensures { OnOk result (nodes.new.items ≡ nodes.old.items ++ flat_one (form kind place (joined (by_roles (scope_at base.now levels.now depth) roles 0 arguments.entry) (only (nil_form place))))) }
+    nodes: &mut Writer<ExpandedNode>,
+)
+    ensures { Wrote nodes.old nodes.new (flat_one (form kind place (joined (by_roles (scope_at base.now levels.now depth) roles 0 arguments.entry) (only (nil_form place))))) }
 {
     // The law that they are few.
     arguments.are_few();
     let parts = parts_of(roles, arguments.count()) + 1;
-    push_form(kind, place, parts, nodes)?;
-    push_by_roles(alloc, base, levels, depth, roles, arguments, nodes)?;
+    push_form(kind, place, parts, nodes);
+    push_by_roles(alloc, base, levels, depth, roles, arguments, nodes);
     push_nil(place, nodes)
 }
 
@@ -63,11 +64,11 @@ pub fn push_progn(
     depth: u32,
     place: Place,
     items: Items,
-    nodes: &mut Vec<ExpandedNode>,
-) -> Result<(), Memory>
-    ensures { OnOk result (nodes.new.items ≡ nodes.old.items ++ flat_one (progn_form place (forms_in (scope_at base.now levels.now depth) items.entry))) }
+    nodes: &mut Writer<ExpandedNode>,
+)
+    ensures { Wrote nodes.old nodes.new (flat_one (progn_form place (forms_in (scope_at base.now levels.now depth) items.entry))) }
 {
-    push_form(CoreKind::Progn, place, items.count(), nodes)?;
+    push_form(CoreKind::Progn, place, items.count(), nodes);
     push_all(alloc, base, levels, depth, items, nodes)
 }
 
@@ -80,14 +81,14 @@ pub fn push_when(
     depth: u32,
     place: Place,
     arguments: Items,
-    nodes: &mut Vec<ExpandedNode>,
-) -> Result<(), Memory>
-    ensures { OnOk result (nodes.new.items ≡ nodes.old.items ++ flat_one (Rows.when_form place (forms_in (scope_at base.now levels.now depth) arguments.entry))) }
+    nodes: &mut Writer<ExpandedNode>,
+)
+    ensures { Wrote nodes.old nodes.new (flat_one (Rows.when_form place (forms_in (scope_at base.now levels.now depth) arguments.entry))) }
 {
     let body = rest(&arguments, 1);
-    push_form(CoreKind::If, place, 3, nodes)?;
-    push_head(alloc, base, levels, depth, place, arguments, nodes)?;
-    push_progn(alloc, base, levels, depth, place, body, nodes)?;
+    push_form(CoreKind::If, place, 3, nodes);
+    push_head(alloc, base, levels, depth, place, arguments, nodes);
+    push_progn(alloc, base, levels, depth, place, body, nodes);
     push_nil(place, nodes)
 }
 
@@ -100,14 +101,14 @@ pub fn push_unless(
     depth: u32,
     place: Place,
     arguments: Items,
-    nodes: &mut Vec<ExpandedNode>,
-) -> Result<(), Memory>
-    ensures { OnOk result (nodes.new.items ≡ nodes.old.items ++ flat_one (Rows.unless_form place (forms_in (scope_at base.now levels.now depth) arguments.entry))) }
+    nodes: &mut Writer<ExpandedNode>,
+)
+    ensures { Wrote nodes.old nodes.new (flat_one (Rows.unless_form place (forms_in (scope_at base.now levels.now depth) arguments.entry))) }
 {
     let body = rest(&arguments, 1);
-    push_form(CoreKind::If, place, 3, nodes)?;
-    push_head(alloc, base, levels, depth, place, arguments, nodes)?;
-    push_nil(place, nodes)?;
+    push_form(CoreKind::If, place, 3, nodes);
+    push_head(alloc, base, levels, depth, place, arguments, nodes);
+    push_nil(place, nodes);
     push_progn(alloc, base, levels, depth, place, body, nodes)
 }
 
@@ -121,16 +122,16 @@ fn push_either(
     depth: u32,
     place: Place,
     first: First,
-    nodes: &mut Vec<ExpandedNode>,
-) -> Result<(), Memory>
-    ensures { OnOk result (nodes.new.items ≡ nodes.old.items ++ either_nodes (scope_at base.now levels.now depth).depth place (first_form (scope_at base.now levels.now depth) first.entry)) }
+    nodes: &mut Writer<ExpandedNode>,
+)
+    ensures { Wrote nodes.old nodes.new (either_nodes (scope_at base.now levels.now depth).depth place (first_form (scope_at base.now levels.now depth) first.entry)) }
 {
     let number = depth;
-    push_form(CoreKind::Let, place, 2, nodes)?;
-    push_first(alloc, base, levels, depth, first, nodes)?;
-    push_form(CoreKind::BindLocal(number, 0), place, 1, nodes)?;
-    push_form(CoreKind::If, place, 3, nodes)?;
-    push_local(number, place, nodes)?;
+    push_form(CoreKind::Let, place, 2, nodes);
+    push_first(alloc, base, levels, depth, first, nodes);
+    push_form(CoreKind::BindLocal(number, 0), place, 1, nodes);
+    push_form(CoreKind::If, place, 3, nodes);
+    push_local(number, place, nodes);
     push_local(number, place, nodes)
 }
 
@@ -143,9 +144,9 @@ pub fn push_or(
     depth: u32,
     place: Place,
     arguments: Items,
-    nodes: &mut Vec<ExpandedNode>,
-) -> Result<(), Memory>
-    ensures { OnOk result (nodes.new.items ≡ nodes.old.items ++ flat_one (ors_in (scope_at base.now levels.now depth) place arguments.entry)) }
+    nodes: &mut Writer<ExpandedNode>,
+)
+    ensures { Wrote nodes.old nodes.new (flat_one (ors_in (scope_at base.now levels.now depth) place arguments.entry)) }
 {
     let mut open = depth;
     let mut left = arguments;
@@ -153,8 +154,11 @@ pub fn push_or(
         if others.count() == 0 {
             return push_first(alloc, base, levels, open, first, nodes);
         }
-        push_either(alloc, base, levels, open, place, first, nodes)?;
-        open = next(open)?;
+        push_either(alloc, base, levels, open, place, first, nodes);
+        let Ok(behind) = next(open) else {
+            return nodes.fill();
+        };
+        open = behind;
         left = others;
     }
     push_nil(place, nodes)
@@ -169,9 +173,9 @@ pub fn push_cond(
     depth: u32,
     place: Place,
     clauses: Items,
-    nodes: &mut Vec<ExpandedNode>,
-) -> Result<(), Memory>
-    ensures { OnOk result (nodes.new.items ≡ nodes.old.items ++ flat_one (conds_in (scope_at base.now levels.now depth) place clauses.entry)) }
+    nodes: &mut Writer<ExpandedNode>,
+)
+    ensures { Wrote nodes.old nodes.new (flat_one (conds_in (scope_at base.now levels.now depth) place clauses.entry)) }
 {
     let mut open = depth;
     let mut left = clauses;
@@ -180,9 +184,12 @@ pub fn push_cond(
             First::Leaf(_, _) => (),
             First::List(_, under) => {
                 let is_test = under.count() == 1;
-                push_clause(alloc, base, levels, open, place, under, nodes)?;
+                push_clause(alloc, base, levels, open, place, under, nodes);
                 if is_test {
-                    open = next(open)?;
+                    let Ok(behind) = next(open) else {
+                        return nodes.fill();
+                    };
+                    open = behind;
                 }
             }
         }
@@ -200,18 +207,18 @@ fn push_clause(
     depth: u32,
     place: Place,
     under: Items,
-    nodes: &mut Vec<ExpandedNode>,
-) -> Result<(), Memory>
-    ensures { OnOk result (nodes.new.items ≡ nodes.old.items ++ clause_nodes (scope_at base.now levels.now depth).depth place (forms_in (scope_at base.now levels.now depth) under.entry)) }
+    nodes: &mut Writer<ExpandedNode>,
+)
+    ensures { Wrote nodes.old nodes.new (clause_nodes (scope_at base.now levels.now depth).depth place (forms_in (scope_at base.now levels.now depth) under.entry)) }
 {
     let Some((first, body)) = under.split_first() else {
-        return Ok(());
+        return;
     };
     if body.count() == 0 {
         return push_either(alloc, base, levels, depth, place, first, nodes);
     }
-    push_form(CoreKind::If, place, 3, nodes)?;
-    push_first(alloc, base, levels, depth, first, nodes)?;
+    push_form(CoreKind::If, place, 3, nodes);
+    push_first(alloc, base, levels, depth, first, nodes);
     push_progn(alloc, base, levels, depth, place, body, nodes)
 }
 
@@ -224,9 +231,9 @@ pub fn push_and(
     depth: u32,
     place: Place,
     arguments: Items,
-    nodes: &mut Vec<ExpandedNode>,
-) -> Result<(), Memory>
-    ensures { OnOk result (nodes.new.items ≡ nodes.old.items ++ flat_one (Rows.and_form place (forms_in (scope_at base.now levels.now depth) arguments.entry))) }
+    nodes: &mut Writer<ExpandedNode>,
+)
+    ensures { Wrote nodes.old nodes.new (flat_one (Rows.and_form place (forms_in (scope_at base.now levels.now depth) arguments.entry))) }
 {
     if arguments.count() == 0 {
         return push_true(place, nodes);
@@ -235,9 +242,9 @@ pub fn push_and(
     let mut left = arguments;
     while let Some((first, others)) = left.split_first() {
         if others.count() > 0 {
-            push_form(CoreKind::If, place, 3, nodes)?;
+            push_form(CoreKind::If, place, 3, nodes);
         }
-        push_first(alloc, base, levels, depth, first, nodes)?;
+        push_first(alloc, base, levels, depth, first, nodes);
         left = others;
     }
     push_forms(ifs, &CoreKind::Constant(Value::nil()), place, 0, nodes)
@@ -252,24 +259,26 @@ pub fn push_prog1(
     depth: u32,
     place: Place,
     arguments: Items,
-    nodes: &mut Vec<ExpandedNode>,
-) -> Result<(), Memory>
-    ensures { OnOk result (nodes.new.items ≡ nodes.old.items ++ flat_one (Rows.prog1_form (scope_at base.now levels.now depth).depth place (first_of place (forms_in (scope_at base.now levels.now depth) arguments.entry)) (body_in (deeper (scope_at base.now levels.now depth)) 1 arguments.entry))) }
+    nodes: &mut Writer<ExpandedNode>,
+)
+    ensures { Wrote nodes.old nodes.new (flat_one (Rows.prog1_form (scope_at base.now levels.now depth).depth place (first_of place (forms_in (scope_at base.now levels.now depth) arguments.entry)) (body_in (deeper (scope_at base.now levels.now depth)) 1 arguments.entry))) }
 {
     let number = depth;
-    let inner = next(depth)?;
+    let Ok(inner) = next(depth) else {
+        return nodes.fill();
+    };
     let body = body_of(base.symbols, rest(&arguments, 1));
     // The law that they are few.
     body.are_few();
-    push_form(CoreKind::Let, place, 2, nodes)?;
-    push_head(alloc, base, levels, depth, place, arguments, nodes)?;
+    push_form(CoreKind::Let, place, 2, nodes);
+    push_head(alloc, base, levels, depth, place, arguments, nodes);
     push_form(
         CoreKind::BindLocal(number, 0),
         place,
         body.count() + 1,
         nodes,
-    )?;
-    push_all(alloc, base, levels, inner, body, nodes)?;
+    );
+    push_all(alloc, base, levels, inner, body, nodes);
     push_local(number, place, nodes)
 }
 
@@ -282,16 +291,16 @@ pub fn push_setq(
     depth: u32,
     place: Place,
     arguments: Items,
-    nodes: &mut Vec<ExpandedNode>,
-) -> Result<(), Memory>
-    ensures { OnOk result (nodes.new.items ≡ nodes.old.items ++ flat_one (Rows.as_one place (pairs_in (scope_at base.now levels.now depth) place arguments.entry))) }
+    nodes: &mut Writer<ExpandedNode>,
+)
+    ensures { Wrote nodes.old nodes.new (flat_one (Rows.as_one place (pairs_in (scope_at base.now levels.now depth) place arguments.entry))) }
 {
     let count = count_pairs(&arguments);
     if count == 0 {
         return push_nil(place, nodes);
     }
     if count > 1 {
-        push_form(CoreKind::Progn, place, count, nodes)?;
+        push_form(CoreKind::Progn, place, count, nodes);
     }
     push_pairs(alloc, base, levels, depth, place, arguments, nodes)
 }
@@ -326,22 +335,21 @@ fn push_pairs(
     depth: u32,
     place: Place,
     items: Items,
-    nodes: &mut Vec<ExpandedNode>,
-) -> Result<(), Memory>
-    ensures { OnOk result (nodes.new.items ≡ nodes.old.items ++ flat (pairs_in (scope_at base.now levels.now depth) place items.entry)) }
+    nodes: &mut Writer<ExpandedNode>,
+)
+    ensures { Wrote nodes.old nodes.new (flat (pairs_in (scope_at base.now levels.now depth) place items.entry)) }
 {
     let mut left = items;
     while let Some((first, others)) = left.split_first() {
         if is_list(&first) {
-            return Ok(());
+            return;
         }
         let Some((value, behind)) = others.split_first() else {
-            return Ok(());
+            return;
         };
-        push_pair(alloc, base, levels, depth, place, &first, value, nodes)?;
+        push_pair(alloc, base, levels, depth, place, &first, value, nodes);
         left = behind;
     }
-    Ok(())
 }
 
 /// Writes a pair of a `setq`.
@@ -354,9 +362,9 @@ fn push_pair(
     place: Place,
     variable: &First,
     value: First,
-    nodes: &mut Vec<ExpandedNode>,
-) -> Result<(), Memory>
-    ensures { OnOk result (nodes.new.items ≡ nodes.old.items ++ flat_one (Rows.set_form place (target_in (scope_at base.now levels.now depth) (symbol_of variable.now)) (place_of variable.now) (first_form (scope_at base.now levels.now depth) value.entry))) }
+    nodes: &mut Writer<ExpandedNode>,
+)
+    ensures { Wrote nodes.old nodes.new (flat_one (Rows.set_form place (target_in (scope_at base.now levels.now depth) (symbol_of variable.now)) (place_of variable.now) (first_form (scope_at base.now levels.now depth) value.entry))) }
 {
     match target_within(base, levels, depth, variable) {
         None => push_node(
@@ -366,7 +374,7 @@ fn push_pair(
             nodes,
         ),
         Some(target) => {
-            push_form(set_kind(&target), place, 1, nodes)?;
+            push_form(set_kind(&target), place, 1, nodes);
             push_first(alloc, base, levels, depth, value, nodes)
         }
     }
@@ -383,14 +391,14 @@ pub fn push_change(
     function: Primitive,
     place: Place,
     arguments: Items,
-    nodes: &mut Vec<ExpandedNode>,
-) -> Result<(), Memory>
-    ensures { OnOk result (nodes.new.items ≡ nodes.old.items ++ flat_one (Rows.change_form place target function (forms_in (scope_at base.now levels.now depth) arguments.entry))) }
+    nodes: &mut Writer<ExpandedNode>,
+)
+    ensures { Wrote nodes.old nodes.new (flat_one (Rows.change_form place target function (forms_in (scope_at base.now levels.now depth) arguments.entry))) }
 {
     let amount = rest(&arguments, 1);
-    push_form(set_kind(&target), place, 1, nodes)?;
-    push_form(CoreKind::Apply(function), place, 2, nodes)?;
-    push_form(read_kind(&target), place, 0, nodes)?;
+    push_form(set_kind(&target), place, 1, nodes);
+    push_form(CoreKind::Apply(function), place, 2, nodes);
+    push_form(read_kind(&target), place, 0, nodes);
     match amount.split_first() {
         None => push_number(1, place, nodes),
         Some((first, _)) => push_first(alloc, base, levels, depth, first, nodes),
@@ -407,20 +415,20 @@ pub fn push_fold(
     function: Primitive,
     place: Place,
     arguments: Items,
-    nodes: &mut Vec<ExpandedNode>,
-) -> Result<(), Memory>
-    ensures { OnOk result (nodes.new.items ≡ nodes.old.items ++ flat_one (Rows.fold_form place function (forms_in (scope_at base.now levels.now depth) arguments.entry))) }
+    nodes: &mut Writer<ExpandedNode>,
+)
+    ensures { Wrote nodes.old nodes.new (flat_one (Rows.fold_form place function (forms_in (scope_at base.now levels.now depth) arguments.entry))) }
 {
     let count = arguments.count();
     if count == 0 {
         return push_nil(place, nodes);
     }
     if count == 1 {
-        push_form(CoreKind::Apply(function), place, 2, nodes)?;
-        push_number(unit_of(function), place, nodes)?;
+        push_form(CoreKind::Apply(function), place, 2, nodes);
+        push_number(unit_of(function), place, nodes);
         return push_all(alloc, base, levels, depth, arguments, nodes);
     }
-    push_forms(count - 1, &CoreKind::Apply(function), place, 2, nodes)?;
+    push_forms(count - 1, &CoreKind::Apply(function), place, 2, nodes);
     push_all(alloc, base, levels, depth, arguments, nodes)
 }
 
@@ -444,16 +452,16 @@ pub fn push_twice(
     function: Primitive,
     place: Place,
     arguments: Items,
-    nodes: &mut Vec<ExpandedNode>,
-) -> Result<(), Memory>
-    ensures { OnOk result (nodes.new.items ≡ nodes.old.items ++ flat_one (Rows.twice_form (scope_at base.now levels.now depth).depth place function (first_of place (forms_in (scope_at base.now levels.now depth) arguments.entry)))) }
+    nodes: &mut Writer<ExpandedNode>,
+)
+    ensures { Wrote nodes.old nodes.new (flat_one (Rows.twice_form (scope_at base.now levels.now depth).depth place function (first_of place (forms_in (scope_at base.now levels.now depth) arguments.entry)))) }
 {
     let number = depth;
-    push_form(CoreKind::Let, place, 2, nodes)?;
-    push_head(alloc, base, levels, depth, place, arguments, nodes)?;
-    push_form(CoreKind::BindLocal(number, 0), place, 1, nodes)?;
-    push_form(CoreKind::Apply(function), place, 2, nodes)?;
-    push_local(number, place, nodes)?;
+    push_form(CoreKind::Let, place, 2, nodes);
+    push_head(alloc, base, levels, depth, place, arguments, nodes);
+    push_form(CoreKind::BindLocal(number, 0), place, 1, nodes);
+    push_form(CoreKind::Apply(function), place, 2, nodes);
+    push_local(number, place, nodes);
     push_local(number, place, nodes)
 }
 
@@ -466,13 +474,13 @@ pub fn push_ignore(
     depth: u32,
     place: Place,
     arguments: Items,
-    nodes: &mut Vec<ExpandedNode>,
-) -> Result<(), Memory>
-    ensures { OnOk result (nodes.new.items ≡ nodes.old.items ++ flat_one (Rows.ignore_form place (forms_in (scope_at base.now levels.now depth) arguments.entry))) }
+    nodes: &mut Writer<ExpandedNode>,
+)
+    ensures { Wrote nodes.old nodes.new (flat_one (Rows.ignore_form place (forms_in (scope_at base.now levels.now depth) arguments.entry))) }
 {
-    push_form(CoreKind::HandlerCase, place, 2, nodes)?;
-    push_progn(alloc, base, levels, depth, place, arguments, nodes)?;
-    push_form(CoreKind::Clause(Class::Error), place, 1, nodes)?;
+    push_form(CoreKind::HandlerCase, place, 2, nodes);
+    push_progn(alloc, base, levels, depth, place, arguments, nodes);
+    push_form(CoreKind::Clause(Class::Error), place, 1, nodes);
     push_nil(place, nodes)
 }
 
@@ -485,12 +493,12 @@ pub fn push_terminate(
     depth: u32,
     place: Place,
     arguments: Items,
-    nodes: &mut Vec<ExpandedNode>,
-) -> Result<(), Memory>
-    ensures { OnOk result (nodes.new.items ≡ nodes.old.items ++ flat_one (Rows.terminate_form place (forms_in (scope_at base.now levels.now depth) arguments.entry))) }
+    nodes: &mut Writer<ExpandedNode>,
+)
+    ensures { Wrote nodes.old nodes.new (flat_one (Rows.terminate_form place (forms_in (scope_at base.now levels.now depth) arguments.entry))) }
 {
-    push_form(CoreKind::Serve(Service::InterruptThread), place, 2, nodes)?;
-    push_head(alloc, base, levels, depth, place, arguments, nodes)?;
+    push_form(CoreKind::Serve(Service::InterruptThread), place, 2, nodes);
+    push_head(alloc, base, levels, depth, place, arguments, nodes);
     push_form(
         CoreKind::Function(FunctionName::AbortThread),
         place,

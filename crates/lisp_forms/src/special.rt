@@ -1,5 +1,6 @@
-ghost use Rattle.std.specs.Prelude.{◌≡◌, ◌++◌, OnOk};
+ghost use Rattle.std.specs.Prelude.{◌≡◌};
 ghost use Rattle.std.specs.List.{list_any};
+ghost use Rattle.lisp_base.specs.Writing.{Wrote};
 ghost use Rattle.form_shapes.specs.Scopes.{has};
 ghost use Rattle.lisp_forms.specs.Written.{special_node, special_nodes, special_parts as parts_of_special};
 
@@ -8,7 +9,7 @@ use form_shapes::expanded::ExpandedNode;
 use form_shapes::levels::next;
 use form_shapes::scope::has;
 use lisp_base::id::{Place, SymbolId};
-use lisp_base::memory::Memory;
+use lisp_base::writer::Writer;
 use lisp_program::form::CoreKind;
 
 /// How many forms a body of so many is, where these parameters are bound round it.
@@ -37,16 +38,16 @@ fn push_special(
     parameter: SymbolId,
     others: &[SymbolId],
     body: u32,
-    nodes: &mut Vec<ExpandedNode>,
-) -> Result<(), Memory>
-    ensures { OnOk result (nodes.new.items ≡ nodes.old.items ++ special_node specials.now place body number parameter others.now) }
+    nodes: &mut Writer<ExpandedNode>,
+)
+    ensures { Wrote nodes.old nodes.new (special_node specials.now place body number parameter others.now) }
 {
     if !has(specials, parameter) {
-        return Ok(());
+        return;
     }
     let parts = special_parts(specials, others, body);
-    push_form(CoreKind::Let, place, 2, nodes)?;
-    push_local(number, place, nodes)?;
+    push_form(CoreKind::Let, place, 2, nodes);
+    push_local(number, place, nodes);
     push_form(CoreKind::BindSpecial(parameter, 0), place, parts, nodes)
 }
 
@@ -56,15 +57,17 @@ pub fn push_specials(
     place: Place,
     parameters: &[SymbolId],
     body: u32,
-    nodes: &mut Vec<ExpandedNode>,
-) -> Result<(), Memory>
-    ensures { OnOk result (nodes.new.items ≡ nodes.old.items ++ special_nodes specials.now place body 0 parameters.now) }
+    nodes: &mut Writer<ExpandedNode>,
+)
+    ensures { Wrote nodes.old nodes.new (special_nodes specials.now place body 0 parameters.now) }
 {
     let mut number = 0;
     for (index, parameter) in parameters.iter().enumerate() {
         let others = &parameters[index + 1..];
-        push_special(specials, place, number, *parameter, others, body, nodes)?;
-        number = next(number)?;
+        push_special(specials, place, number, *parameter, others, body, nodes);
+        let Ok(behind) = next(number) else {
+            return nodes.fill();
+        };
+        number = behind;
     }
-    Ok(())
 }

@@ -1,4 +1,5 @@
-ghost use Rattle.std.specs.Prelude.{◌≡◌, ◌++◌, IfOk, OnOk};
+ghost use Rattle.std.specs.Prelude.{◌≡◌, IfOk, OnOk};
+ghost use Rattle.lisp_base.specs.Writing.{Wrote};
 ghost use Rattle.lisp_data.specs.Data.{Data, count_of};
 ghost use Rattle.form_shapes.specs.Contexts.{scope_at};
 ghost use Rattle.form_shapes.specs.Scopes.{first_symbol as first_symbol_in};
@@ -25,6 +26,7 @@ use form_shapes::within::{leaf_within, received_within, shape_within};
 use lisp_base::id::{Place, SymbolId};
 use lisp_base::memory::Memory;
 use lisp_base::value::Value;
+use lisp_base::writer::Writer;
 use lisp_data::datum::Datum;
 use lisp_data::items::{First, Items};
 use lisp_program::form::CoreKind;
@@ -170,24 +172,33 @@ fn push_defun(
     name: SymbolId,
     place: Place,
     arguments: Items,
-    nodes: &mut Vec<ExpandedNode>,
-) -> Result<(), Memory>
-    ensures { OnOk result (nodes.new.items ≡ nodes.old.items ++ flat_one (Program.top_list_form (scope_at base.now levels.now 0) place (Shape.Defun name) arguments.entry)) }
+    nodes: &mut Writer<ExpandedNode>,
+)
+    ensures { Wrote nodes.old nodes.new (flat_one (Program.top_list_form (scope_at base.now levels.now 0) place (Shape.Defun name) arguments.entry)) }
 {
-    let parameters = parameters_in(alloc, &arguments.skip(1))?;
+    let Ok(parameters) = parameters_in(alloc, &arguments.skip(1)) else {
+        return nodes.fill();
+    };
     let bound = parameters.as_slice();
-    let mut open = received_within(alloc, base, levels, 0, bound)?;
+    let Ok(mut open) = received_within(alloc, base, levels, 0, bound) else {
+        return nodes.fill();
+    };
     let count = open.depth;
-    open.open(Level::Block(name))?;
+    if open.open(Level::Block(name)).is_err() {
+        return nodes.fill();
+    }
     let body = function_body_of(base.symbols, arguments.skip(2));
     let forms = body.count();
-    let mut written = Vec::new(alloc);
-    push_all(alloc, base, &open.levels, open.depth, body, &mut written)?;
+    let mut written = Writer::new(alloc);
+    push_all(alloc, base, &open.levels, open.depth, body, &mut written);
+    let Ok(written) = written.finish() else {
+        return nodes.fill();
+    };
     let inner = written.as_slice();
     let blocked = blocked_parts(count, forms, inner);
     let parts = special_parts(base.specials, bound, blocked);
-    push_node(Expanded::Defun(name, count), place, parts, nodes)?;
-    push_specials(base.specials, place, bound, blocked, nodes)?;
+    push_node(Expanded::Defun(name, count), place, parts, nodes);
+    push_specials(base.specials, place, bound, blocked, nodes);
     push_blocked(count, place, forms, inner, nodes)
 }
 
@@ -199,9 +210,9 @@ fn push_top_shaped(
     shape: Shape,
     place: Place,
     arguments: Items,
-    nodes: &mut Vec<ExpandedNode>,
-) -> Result<(), Memory>
-    ensures { OnOk result (nodes.new.items ≡ nodes.old.items ++ flat_one (Program.top_list_form (scope_at base.now levels.now 0) place shape arguments.entry)) }
+    nodes: &mut Writer<ExpandedNode>,
+)
+    ensures { Wrote nodes.old nodes.new (flat_one (Program.top_list_form (scope_at base.now levels.now 0) place shape arguments.entry)) }
 {
     match shape {
         Shape::Defun(name) => push_defun(alloc, base, levels, name, place, arguments, nodes),
@@ -217,13 +228,13 @@ fn push_top_list(
     known: &Known,
     place: Place,
     under: Items,
-    nodes: &mut Vec<ExpandedNode>,
-) -> Result<(), Memory>
-    ensures { OnOk result (nodes.new.items ≡ nodes.old.items ++ flat_one (Program.top_list (scope_at base.now levels.now 0) (known_as known.now) place under.entry)) }
+    nodes: &mut Writer<ExpandedNode>,
+)
+    ensures { Wrote nodes.old nodes.new (flat_one (Program.top_list (scope_at base.now levels.now 0) (known_as known.now) place under.entry)) }
 {
     match top_shape(alloc, base, levels, known, place, &under) {
         Ok(shape) => push_top_shaped(alloc, base, levels, shape, place, under.skip(1), nodes),
-        Err(memory) => Err(memory),
+        Err(_) => nodes.fill(),
     }
 }
 
@@ -234,9 +245,9 @@ fn push_top(
     levels: &Levels,
     known: &Known,
     datum: &Datum,
-    nodes: &mut Vec<ExpandedNode>,
-) -> Result<(), Memory>
-    ensures { OnOk result (nodes.new.items ≡ nodes.old.items ++ flat_one (Program.top_form (scope_at base.now levels.now 0) (known_as known.now) datum.now)) }
+    nodes: &mut Writer<ExpandedNode>,
+)
+    ensures { Wrote nodes.old nodes.new (flat_one (Program.top_form (scope_at base.now levels.now 0) (known_as known.now) datum.now)) }
 {
     let Some((first, _)) = Items::of(datum).split_first() else {
         return push_node(Expanded::Refused(UNKNOWN_OPERATOR), Place(0), 0, nodes);
@@ -264,14 +275,14 @@ pub fn expansion(
 ) -> Result<Vec<ExpandedNode>, Memory>
     ensures { IfOk result (λ nodes. nodes.items ≡ flat (Program.top_forms (scope_at base.now levels.now 0) Program.nothing_known program.now)) }
 {
-    let mut nodes = Vec::new(alloc);
+    let mut nodes = Writer::new(alloc);
     let mut known = Known {
         variables: Vec::new(alloc),
         functions: Vec::new(alloc),
     };
     for datum in program {
-        push_top(alloc, base, levels, &known, datum, &mut nodes)?;
+        push_top(alloc, base, levels, &known, datum, &mut nodes);
         know(alloc, base.symbols, datum, &mut known)?;
     }
-    Ok(nodes)
+    nodes.finish()
 }

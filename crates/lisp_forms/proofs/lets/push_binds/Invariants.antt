@@ -1,4 +1,5 @@
-use Rattle.std.proofs.Common.{◌≡◌, ◌++◌, drop}
+use Rattle.std.proofs.Common.{drop}
+use Rattle.lisp_base.proofs.Writing.{Writes}
 use Rattle.form_shapes.specs.Contexts.{scope_at}
 use Rattle.lisp_forms.specs.Written.{bind_nodes}
 use Rattle.lisp_forms.proofs.Binds.{binds_from}
@@ -7,5 +8,4 @@ use Rattle.lisp_forms.proofs.lets.push_binds.Given as goal
 -- those so far, with those that are left, are all
 abbrev pub invariant-loop-index : goal.invariant-loop-index
 invariant-loop-index l =
-    l.nodes.items ++ binds_from l.base.specials.now l.place l.body l.number (drop l.index l.variables)
-    ≡ l.fn.nodes.items ++ bind_nodes (scope_at l.base l.levels l.depth) l.place l.body l.variables
+    Writes l.fn.nodes l.nodes (binds_from l.base.specials.now l.place l.body l.number (drop l.index l.variables)) (bind_nodes (scope_at l.base l.levels l.depth) l.place l.body l.variables)

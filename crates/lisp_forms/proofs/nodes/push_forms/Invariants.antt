@@ -1,8 +1,8 @@
-use Rattle.std.proofs.Common.{◌≡◌, ◌++◌}
+use Rattle.lisp_base.specs.Writing.{Wrote}
 use Rattle.form_shapes.specs.declared.expanded.Expanded.TheVariants.{Form}
 use Rattle.lisp_forms.specs.Flat.{node, repeated}
 use Rattle.lisp_forms.proofs.nodes.push_forms.Given as goal
 
 -- so many are written
 abbrev pub invariant-loop-done : goal.invariant-loop-done
-invariant-loop-done l = l.nodes.items ≡ l.fn.nodes.items ++ repeated l._done (node (Form l.kind) l.place l.parts)
+invariant-loop-done l = Wrote l.fn.nodes l.nodes (repeated l._done (node (Form l.kind) l.place l.parts))

@@ -1,9 +1,9 @@
-use Rattle.std.proofs.Common.{◌≡◌, ◌++◌, drop}
+use Rattle.std.proofs.Common.{drop}
+use Rattle.lisp_base.proofs.Writing.{Writes}
 use Rattle.lisp_forms.specs.Written.{special_nodes}
 use Rattle.lisp_forms.proofs.special.push_specials.Given as goal
 
 -- those so far, with those that are left, are all
 abbrev pub invariant-loop-index : goal.invariant-loop-index
 invariant-loop-index l =
-    l.nodes.items ++ special_nodes l.specials l.place l.body l.number (drop l.index l.parameters)
-    ≡ l.fn.nodes.items ++ special_nodes l.specials l.place l.body 0 l.parameters
+    Writes l.fn.nodes l.nodes (special_nodes l.specials l.place l.body l.number (drop l.index l.parameters)) (special_nodes l.specials l.place l.body 0 l.parameters)

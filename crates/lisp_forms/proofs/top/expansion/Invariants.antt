@@ -1,4 +1,5 @@
-use Rattle.std.proofs.Common.{◌≡◌, ◌++◌, drop}
+use Rattle.std.proofs.Common.{Some, [], drop}
+use Rattle.lisp_base.proofs.Writing.{Writes}
 use Rattle.form_shapes.specs.Contexts.{scope_at}
 use Rattle.lisp_forms.specs.Known.{known_as}
 use Rattle.lisp_forms.specs.Flat.{flat}
@@ -8,5 +9,4 @@ use Rattle.lisp_forms.proofs.top.expansion.Given as goal
 -- the forms so far, with those of the data that are left, are all
 abbrev pub invariant-loop-datum : goal.invariant-loop-datum
 invariant-loop-datum l =
-    l.nodes.items ++ flat (Program.top_forms (scope_at l.base l.levels 0) (known_as l.known) (drop l.datum-index l.program))
-    ≡ flat (Program.top_forms (scope_at l.base l.levels 0) Program.nothing_known l.program)
+    Writes (Some []) l.nodes (flat (Program.top_forms (scope_at l.base l.levels 0) (known_as l.known) (drop l.datum-index l.program))) (flat (Program.top_forms (scope_at l.base l.levels 0) Program.nothing_known l.program))

@@ -1,13 +1,15 @@
-use Rattle.std.proofs.Common.{◌++◌, ◌∷◌, [], ◌∙◌, ap}
+use Rattle.std.proofs.Common.{◌∷◌, [], ◌∙◌, ap, subst}
+use Rattle.lisp_base.specs.Writing.{Wrote}
+use Rattle.lisp_base.proofs.Writing.{written_whole}
 use Rattle.form_shapes.specs.declared.expanded.Expanded.TheVariants.{Defun}
 use Rattle.form_shapes.specs.declared.levels.Level.TheVariants.{Block}
 use Rattle.form_shapes.specs.Bindings.{function_body_of}
 use Rattle.form_shapes.specs.Contexts.{scope_at, with_opened}
 use Rattle.form_shapes.specs.Places.{parameters_in}
 use Rattle.form_shapes.specs.Scopes.{Scope, inside}
-use Rattle.lisp_forms.specs.Expansion.{forms_in}
-use Rattle.lisp_forms.specs.Flat.{flat, node}
+use Rattle.lisp_forms.specs.Flat.{node}
 use Rattle.lisp_forms.proofs.Lambdas.{within-depth}
+use Rattle.lisp_forms.proofs.Parts.{where_ok}
 use Rattle.lisp_forms.proofs.Tops.{written_defun}
 use Rattle.lisp_forms.proofs.top.push_defun.Goals as goal
 
@@ -15,15 +17,15 @@ pub returns : goal.returns
 returns c =
     let s : Scope = scope_at c.args.base.now c.args.levels.now 0 in
     let inner : Scope = with_opened s c.open.new.self in
-    written_defun c.push_blocked.result s inner c.args.place c.args.name c.in_ok-open.open.depth c.count-forms.result c.blocked_parts-blocked.result c.args.arguments c.function_body_of-body.result
-    c.as_slice-bound.result.now c.as_slice-inner.result.now c.args.nodes.now.items _ _ _
-    (c.as_slice-bound.ensures.value ∙ c.in_ok-parameters.ensures ∙ ap parameters_in c.skip.ensures)
-    (c.in_ok-open-2.ensures s ∙ ap (λ t. inside t (Block c.args.name)) c.in_ok-open.ensures)
+    written_defun s inner c.args.place c.args.name c.in-Ok-received_within.open.depth c.count-forms.result c.blocked_parts-blocked.result c.args.arguments c.function_body_of-body.result
+    c.as_slice-bound.result.now c.as_slice-inner.result.now c.args.nodes.now c.push_node.new.nodes c.push_specials.new.nodes c.push_blocked.new.nodes
+    (c.as_slice-bound.ensures.value ∙ c.in-Ok.ensures ∙ ap parameters_in c.skip.ensures)
+    (where_ok c.open.result c.is_err.result c.is_err.ensures.value c.if-is_err.false c.open.ensures s ∙ ap (λ t. inside t (Block c.args.name)) c.in-Ok-received_within.ensures)
     (c.function_body_of-body.ensures.is ∙ ap (function_body_of s.names) c.skip-2.ensures)
-    (c.as_slice-inner.ensures.value ∙ c.in_ok-push_all.ensures ∙ ap (λ ns. ns ++ flat (forms_in inner c.function_body_of-body.result)) c.new-written.ensures.items)
+    (c.as_slice-inner.ensures.value ∙ written_whole _ _ c.in-Ok-finish.written.items _ c.new-written.ensures c.in-Ok-finish.ensures c.push_all.ensures)
     c.count-forms.ensures
-    (ap (λ (t : Scope). t.depth) c.in_ok-open.ensures ∙ within-depth s c.as_slice-bound.result.now)
+    (ap (λ (t : Scope). t.depth) c.in-Ok-received_within.ensures ∙ within-depth s c.as_slice-bound.result.now)
     (λ q e. c.blocked_parts-blocked.ensures q e)
-    (c.in_ok-push_node.ensures ∙ ap (λ m. c.args.nodes.now.items ++ node (Defun c.args.name c.in_ok-open.open.depth) c.args.place m ∷ []) c.special_parts-parts.ensures)
-    c.in_ok-push_specials.ensures
+    (subst (λ m. Wrote c.args.nodes.now c.push_node.new.nodes (node (Defun c.args.name c.in-Ok-received_within.open.depth) c.args.place m ∷ [])) c.special_parts-parts.ensures c.push_node.ensures)
+    c.push_specials.ensures
     c.push_blocked.ensures
