@@ -1,5 +1,5 @@
 -- What is written in several steps.
-use Rattle.std.proofs.Common.{◌≡◌, List, [], ◌++◌, Option, Some, None, refl, ap, subst, sym, ◌∙◌, append_assoc, append-nil}
+use Rattle.std.proofs.Common.{◌≡◌, ℕ, zero, suc, ◌+◌, ◌<◌, List, [], ◌∷◌, ◌++◌, Option, Some, None, length, get_or, take, flat_map, refl, ap, subst, sym, ◌∙◌, arith, add-one, append_assoc, append-nil}
 use Rattle.std.specs.Bool.{⊤}
 use Rattle.lisp_base.specs.Writing.{Wrote}
 
@@ -53,5 +53,17 @@ writes_done None (Some b) left all so_far none = absurd so_far
 writes_done (Some a) (Some b) left all so_far none = sym (append-nil b) ∙ sym (ap (λ ns. b ++ ns) none) ∙ so_far
 
 -- all that a new writer wrote
-pub written_whole : {A : Type 0} (none whole : Option (List A)) (items all : List A) → none ≡ Some [] → whole ≡ Some items → Wrote none whole all → items ≡ all
-written_whole none whole items all empty full h = subst (λ w. Wrote (Some []) w all) full (subst (λ n. Wrote n whole all) empty h)
+pub written_whole : {A : Type 0} (begun whole : Option (List A)) (items all : List A) → begun ≡ Some [] → whole ≡ Some items → Wrote begun whole all → items ≡ all
+written_whole begun whole items all empty full h = subst (λ w. Wrote (Some []) w all) full (subst (λ n. Wrote n whole all) empty h)
+
+-- what is written for each of several, one more of them
+flat-more : {A B : Type 0} (f : B → List A) (xs : List B) (i : ℕ) (x : B) → i < length xs → x ≡ get_or xs i x → flat_map f (take i xs) ++ f x ≡ flat_map f (take (suc i) xs)
+flat-more f [] i x h is = absurd (omega arith)
+flat-more f (y ∷ ys) zero x h is = ap f is ∙ sym (append-nil (f y))
+flat-more f (y ∷ ys) (suc i) x h is = append_assoc (f y) (flat_map f (take i ys)) (f x) ∙ ap (λ ns. f y ++ ns) (flat-more f ys i x (omega arith) is)
+
+pub wrote_more : {A B : Type 0} (f : B → List A) (old now new : Option (List A)) (xs : List B) (i : ℕ) (x : B) → i < length xs → x ≡ get_or xs i x
+    → Wrote old now (flat_map f (take i xs)) → Wrote now new (f x) → Wrote old new (flat_map f (take (i + 1) xs))
+wrote_more f old now new xs i x h is so_far written =
+    wrote_same old new (flat_map f (take i xs) ++ f x) (flat_map f (take (i + 1) xs)) (wrote_both old now new (flat_map f (take i xs)) (f x) so_far written)
+    (flat-more f xs i x h is ∙ ap (λ n. flat_map f (take n xs)) (sym (add-one i)))

@@ -6,5 +6,6 @@ pub mod id;
 pub mod limits;
 pub mod memory;
 pub mod sequence;
+pub mod text_writer;
 pub mod value;
 pub mod writer;

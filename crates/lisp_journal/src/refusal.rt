@@ -2,9 +2,9 @@ ghost use Rattle.std.specs.Prelude.{◌≡◌, IfOk};
 ghost use Rattle.std.specs.String.{string_bytes};
 ghost use Rattle.lisp_journal.specs.Refusal.{refusal_line, refusal_name, words_line};
 
-use crate::line::push_decimal;
 use lisp_base::id::Place;
 use lisp_base::memory::Memory;
+use lisp_base::text_writer::TextWriter;
 use std::alloc::Global;
 
 /// The line for words that are not accepted.
@@ -45,12 +45,13 @@ fn name_of(number: u32) -> &'static str
 pub fn write_refusal(alloc: Global, number: u32, place: Place) -> Result<String, Memory>
     ensures { IfOk result (λ text. string_bytes text ≡ refusal_line number place) }
 {
-    let mut text = String::from_str(alloc, "refused ")?;
-    push_decimal(alloc, &mut text, u64::from(number))?;
-    text.push_str(" ")?;
-    text.push_str(name_of(number))?;
-    text.push_str(" at ")?;
-    push_decimal(alloc, &mut text, u64::from(place.0))?;
-    text.push_str("\n")?;
-    Ok(text)
+    let mut text = TextWriter::new(alloc);
+    text.push_str("refused ");
+    text.push_decimal(alloc, u64::from(number));
+    text.push_str(" ");
+    text.push_str(name_of(number));
+    text.push_str(" at ");
+    text.push_decimal(alloc, u64::from(place.0));
+    text.push_str("\n");
+    text.finish()
 }

@@ -1,9 +1,11 @@
 -- Characters that are written byte by byte.
-use Rattle.std.proofs.Common.{◌≡◌, ◌≢◌, ℕ, suc, ◌<◌, ◌≤◌, List, [], ◌∷◌, ◌++◌, length, get_or, encode_utf8, encode_utf8_all, flat_map, refl, sym, arith, ⊎_elim, append-nil, append_assoc}
+use Rattle.std.proofs.Common.{◌≡◌, ◌≢◌, ℕ, suc, ◌<◌, ◌≤◌, Option, List, [], ◌∷◌, ◌++◌, length, get_or, encode_utf8, encode_utf8_all, flat_map, refl, sym, arith, ⊎_elim, append-nil}
 use Rattle.std.proofs.lemmas.Bool.{cases_lt}
 use Rattle.std.proofs.lemmas.Bool.Decides.{nat_tests}
 use Rattle.std.proofs.lemmas.Grind.{flat_map-append}
 use Rattle.std.proofs.lemmas.Str.{encode_ascii, encodes-append, inside_one}
+use Rattle.lisp_base.specs.Writing.{Wrote}
+use Rattle.lisp_base.proofs.Writing.{wrote_both, wrote_same}
 use Rattle.lisp_reader.specs.Printing.{escaped_byte}
 
 -- bytes that are each written as they are
@@ -30,9 +32,11 @@ character_kept f c same wide =
     (cases_lt c 128)
 
 -- one character more
-pub character_written : (f : ℕ → List ℕ) (before now after cs : List ℕ) (c : ℕ) → now ≡ before ++ flat_map f (encode_utf8_all cs) → after ≡ now ++ flat_map f (encode_utf8 c)
-    → after ≡ before ++ flat_map f (encode_utf8_all (cs ++ c ∷ []))
-character_written f before now after cs c is more = rw (more, is, encodes-append, append-nil, flat_map-append, append_assoc) refl
+pub character_written : (f : ℕ → List ℕ) (old now new : Option (List ℕ)) (cs : List ℕ) (c : ℕ) → Wrote old now (flat_map f (encode_utf8_all cs)) → Wrote now new (flat_map f (encode_utf8 c))
+    → Wrote old new (flat_map f (encode_utf8_all (cs ++ c ∷ [])))
+character_written f old now new cs c is more =
+    wrote_same old new (flat_map f (encode_utf8_all cs) ++ flat_map f (encode_utf8 c)) (flat_map f (encode_utf8_all (cs ++ c ∷ [])))
+    (wrote_both old now new (flat_map f (encode_utf8_all cs)) (flat_map f (encode_utf8 c)) is more) (rw (encodes-append, append-nil, flat_map-append) refl)
 
 -- any other character of a string than `"` and `\` is written as it is
 pub character_plain : (c : ℕ) → c ≢ 34 → c ≢ 92 → flat_map escaped_byte (encode_utf8 c) ≡ encode_utf8 c

@@ -1,13 +1,14 @@
 //! How values are printed.
-ghost use Rattle.std.specs.Prelude.{◌≡◌, ◌++◌, IfOk, OnOk, encode_utf8, slice_get};
-ghost use Rattle.std.specs.Fmt.{decimal, signed_decimal};
+ghost use Rattle.std.specs.Prelude.{◌≡◌, IfOk, encode_utf8, slice_get};
 ghost use Rattle.std.specs.List.{flat_map};
 ghost use Rattle.std.specs.String.{string_bytes};
+ghost use Rattle.lisp_base.specs.Writing.{Wrote};
 ghost use Rattle.lisp_reader.specs.Printing.{class_name, class_text, condition_text, escaped_byte, escaped_string, object_text, printed, reason_text, string_text, symbol_text, time_text, zeros_before};
 
 use lisp_base::condition::{Class, Condition};
 use lisp_base::id::{Micros, StringId, SymbolId};
 use lisp_base::memory::Memory;
+use lisp_base::text_writer::TextWriter;
 use lisp_base::value::{Node, Value};
 use std::alloc::Global;
 use symbol_table::symbols::Symbols;
@@ -27,33 +28,33 @@ pub fn print_value(
 ) -> Result<String, Memory>
     ensures { IfOk result (λ text. string_bytes text ≡ printed escape symbols.now texts.now value.now) }
 {
-    let mut text = String::new(alloc);
-    push_value(alloc, &mut text, *value, escape, symbols, texts)?;
-    Ok(text)
+    let mut text = TextWriter::new(alloc);
+    push_value(alloc, &mut text, *value, escape, symbols, texts);
+    text.finish()
 }
 
 /// The characters of a string in `"`, with a `\` before `"` and `\`.
 pub fn print_string(alloc: Global, characters: &str) -> Result<String, Memory>
     ensures { IfOk result (λ text. string_bytes text ≡ escaped_string characters.now) }
 {
-    let mut text = String::new(alloc);
-    push_escaped(&mut text, characters)?;
-    Ok(text)
+    let mut text = TextWriter::new(alloc);
+    push_escaped(&mut text, characters);
+    text.finish()
 }
 
-/// Writes a value behind a text.
-fn push_value(
+/// Writes a value behind a text, as `print_value` prints it.
+pub fn push_value(
     alloc: Global,
-    text: &mut String,
+    text: &mut TextWriter,
     value: Value,
     escape: bool,
     symbols: &Symbols,
     texts: &Texts,
-) -> Result<(), Memory>
-    ensures { OnOk result (string_bytes text.new ≡ string_bytes text.old ++ printed escape symbols.now texts.now value) }
+)
+    ensures { Wrote text.old text.new (printed escape symbols.now texts.now value) }
 {
     match value.node() {
-        Node::Int(number) => push_number(alloc, text, number),
+        Node::Int(number) => text.push_number(alloc, number),
         Node::Symbol(symbol) => push_symbol(text, symbol, symbols),
         Node::Text(string) => push_string(text, string, escape, texts),
         Node::Time(time) => push_time(alloc, text, time),
@@ -65,91 +66,57 @@ fn push_value(
     }
 }
 
-/// Writes these characters behind a text.
-fn push_word(text: &mut String, word: &str) -> Result<(), Memory>
-    ensures { OnOk result (string_bytes text.new ≡ string_bytes text.old ++ word.now) }
-{
-    text.push_str(word)?;
-    Ok(())
-}
-
-fn push_number(alloc: Global, text: &mut String, number: i64) -> Result<(), Memory>
-    ensures { OnOk result (string_bytes text.new ≡ string_bytes text.old ++ signed_decimal number) }
-{
-    let digits = number.to_string(alloc)?;
-    text.push_str(digits.as_str())?;
-    Ok(())
-}
-
-fn push_decimal(alloc: Global, text: &mut String, number: u64) -> Result<(), Memory>
-    ensures { OnOk result (string_bytes text.new ≡ string_bytes text.old ++ decimal number) }
-{
-    let digits = number.to_string(alloc)?;
-    text.push_str(digits.as_str())?;
-    Ok(())
-}
-
-fn push_symbol(text: &mut String, symbol: SymbolId, symbols: &Symbols) -> Result<(), Memory>
-    ensures { OnOk result (string_bytes text.new ≡ string_bytes text.old ++ symbol_text symbols.now symbol) }
+fn push_symbol(text: &mut TextWriter, symbol: SymbolId, symbols: &Symbols)
+    ensures { Wrote text.old text.new (symbol_text symbols.now symbol) }
 {
     match symbols.name(symbol) {
-        Some(name) => push_word(text, name),
-        None => push_word(text, "?"),
+        Some(name) => text.push_str(name),
+        None => text.push_str("?"),
     }
 }
 
 /// Writes a character of a string behind a text, with a `\` before it where it is `"` or `\`.
-fn push_character(text: &mut String, character: char) -> Result<(), Memory>
-    ensures { OnOk result (string_bytes text.new ≡ string_bytes text.old ++ flat_map escaped_byte (encode_utf8 character)) }
+fn push_character(text: &mut TextWriter, character: char)
+    ensures { Wrote text.old text.new (flat_map escaped_byte (encode_utf8 character)) }
 {
     match character {
-        '"' => push_word(text, "\\\""),
-        '\\' => push_word(text, "\\\\"),
-        _ => {
-            text.push(character)?;
-            Ok(())
-        }
+        '"' => text.push_str("\\\""),
+        '\\' => text.push_str("\\\\"),
+        _ => text.push(character),
     }
 }
 
 /// Writes the characters of a string behind a text, with a `\` before `"` and `\`.
-fn push_characters(text: &mut String, characters: &str) -> Result<(), Memory>
-    ensures { OnOk result (string_bytes text.new ≡ string_bytes text.old ++ flat_map escaped_byte characters.now) }
+fn push_characters(text: &mut TextWriter, characters: &str)
+    ensures { Wrote text.old text.new (flat_map escaped_byte characters.now) }
 {
     for character in characters.chars() {
-        push_character(text, character)?;
+        push_character(text, character);
     }
-    Ok(())
 }
 
 /// Writes a string behind a text, escaped.
-fn push_escaped(text: &mut String, characters: &str) -> Result<(), Memory>
-    ensures { OnOk result (string_bytes text.new ≡ string_bytes text.old ++ escaped_string characters.now) }
+fn push_escaped(text: &mut TextWriter, characters: &str)
+    ensures { Wrote text.old text.new (escaped_string characters.now) }
 {
-    text.push_str("\"")?;
-    push_characters(text, characters)?;
-    text.push_str("\"")?;
-    Ok(())
+    text.push_str("\"");
+    push_characters(text, characters);
+    text.push_str("\"");
 }
 
 /// Writes the string with a number behind a text.
-fn push_string(
-    text: &mut String,
-    string: StringId,
-    escape: bool,
-    texts: &Texts,
-) -> Result<(), Memory>
-    ensures { OnOk result (string_bytes text.new ≡ string_bytes text.old ++ string_text escape (slice_get texts.now string)) }
+fn push_string(text: &mut TextWriter, string: StringId, escape: bool, texts: &Texts)
+    ensures { Wrote text.old text.new (string_text escape (slice_get texts.now string)) }
 {
     match texts.text(string) {
         Some(characters) => {
             if escape {
                 push_escaped(text, characters)
             } else {
-                push_word(text, characters)
+                text.push_str(characters)
             }
         }
-        None => push_word(text, "?"),
+        None => text.push_str("?"),
     }
 }
 
@@ -173,27 +140,25 @@ fn zeros_before(micros: u64) -> &'static str
 }
 
 /// Writes a time behind a text, in seconds with six digits behind the dot.
-fn push_time(alloc: Global, text: &mut String, time: Micros) -> Result<(), Memory>
-    ensures { OnOk result (string_bytes text.new ≡ string_bytes text.old ++ time_text time) }
+fn push_time(alloc: Global, text: &mut TextWriter, time: Micros)
+    ensures { Wrote text.old text.new (time_text time) }
 {
     let rest = time.0 % SECOND;
-    push_decimal(alloc, text, time.0 / SECOND)?;
-    text.push_str(".")?;
-    text.push_str(zeros_before(rest))?;
-    push_decimal(alloc, text, rest)?;
-    Ok(())
+    text.push_decimal(alloc, time.0 / SECOND);
+    text.push_str(".");
+    text.push_str(zeros_before(rest));
+    text.push_decimal(alloc, rest);
 }
 
 /// Writes an object behind a text: its kind and its number.
-fn push_object(alloc: Global, text: &mut String, kind: &str, number: u32) -> Result<(), Memory>
-    ensures { OnOk result (string_bytes text.new ≡ string_bytes text.old ++ object_text kind.now number) }
+fn push_object(alloc: Global, text: &mut TextWriter, kind: &str, number: u32)
+    ensures { Wrote text.old text.new (object_text kind.now number) }
 {
-    text.push_str("#<")?;
-    text.push_str(kind)?;
-    text.push_str(" ")?;
-    push_decimal(alloc, text, u64::from(number))?;
-    text.push_str(">")?;
-    Ok(())
+    text.push_str("#<");
+    text.push_str(kind);
+    text.push_str(" ");
+    text.push_decimal(alloc, u64::from(number));
+    text.push_str(">");
 }
 
 /// The name of a class.
@@ -226,38 +191,28 @@ fn name_of(class: Class) -> &'static str
 }
 
 /// Writes the text of a condition behind a text, where it has one.
-fn push_reason(text: &mut String, reason: Option<StringId>, texts: &Texts) -> Result<(), Memory>
-    ensures { OnOk result (string_bytes text.new ≡ string_bytes text.old ++ reason_text texts.now reason) }
+fn push_reason(text: &mut TextWriter, reason: Option<StringId>, texts: &Texts)
+    ensures { Wrote text.old text.new (reason_text texts.now reason) }
 {
-    match reason {
-        None => Ok(()),
-        Some(string) => {
-            text.push_str(" ")?;
-            push_string(text, string, true, texts)?;
-            Ok(())
-        }
+    if let Some(string) = reason {
+        text.push_str(" ");
+        push_string(text, string, true, texts);
     }
 }
 
 /// Writes a condition behind a text: its class, and its text where it has one.
-fn push_class(text: &mut String, condition: Condition, texts: &Texts) -> Result<(), Memory>
-    ensures { OnOk result (string_bytes text.new ≡ string_bytes text.old ++ class_text texts.now condition) }
+fn push_class(text: &mut TextWriter, condition: Condition, texts: &Texts)
+    ensures { Wrote text.old text.new (class_text texts.now condition) }
 {
-    text.push_str("#<")?;
-    text.push_str(name_of(condition.class))?;
-    push_reason(text, condition.text, texts)?;
-    text.push_str(">")?;
-    Ok(())
+    text.push_str("#<");
+    text.push_str(name_of(condition.class));
+    push_reason(text, condition.text, texts);
+    text.push_str(">");
 }
 
 /// Writes a condition behind a text.
-fn push_condition(
-    text: &mut String,
-    condition: Condition,
-    escape: bool,
-    texts: &Texts,
-) -> Result<(), Memory>
-    ensures { OnOk result (string_bytes text.new ≡ string_bytes text.old ++ condition_text escape texts.now condition) }
+fn push_condition(text: &mut TextWriter, condition: Condition, escape: bool, texts: &Texts)
+    ensures { Wrote text.old text.new (condition_text escape texts.now condition) }
 {
     if escape {
         return push_class(text, condition, texts);

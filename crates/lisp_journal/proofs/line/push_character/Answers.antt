@@ -8,6 +8,6 @@ use Rattle.lisp_journal.proofs.line.push_character.Goals as goal
 plain : (b : ℕ) → b ≢ 10 → line_byte b ≡ b ∷ []
 plain b other = grind (arith, nat_tests)
 
-pub returns-in_ok-push-in_default : goal.returns-in_ok-push-in_default
-returns-in_ok-push-in_default c =
-    rw (character_kept line_byte c.args.character (plain c.args.character (omega arith)) (λ b wide. plain b (omega arith))) c.in_ok-push-in_default.ensures.bytes
+pub returns-in_default : goal.returns-in_default
+returns-in_default c =
+    rw (character_kept line_byte c.args.character (plain c.args.character (omega arith)) (λ b wide. plain b (omega arith))) c.push.ensures
