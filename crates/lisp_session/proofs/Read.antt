@@ -1,5 +1,5 @@
 -- Why there is no program, from what reader and expander say.
-use Rattle.std.proofs.Common.{◌≡◌, ℕ, List, [], Result, Ok, Err, IsErrAnd, IfErr, Some, refl, ap, sym, ◌∙◌}
+use Rattle.std.proofs.Common.{◌≡◌, ℕ, List, [], Result, Ok, Err, IsErrAnd, IfErr}
 use Rattle.symbol_table.specs.Names.{first_symbols}
 use Rattle.lisp_data.specs.Data.{Data}
 use Rattle.lisp_reader.specs.Reading.{IsRefusal as IsRefusalOfText, Reads}
@@ -7,13 +7,13 @@ use Rattle.lisp_reader.specs.Tables.{Tables, tables_of}
 use Rattle.lisp_reader.specs.declared.refusal.ReadRefusal.{ReadRefusal}
 use Rattle.lisp_reader.specs.declared.refusal.ReadRefusal.TheVariants.{Refused as RefusedText, Memory as NoMemoryForData}
 use Rattle.lisp_program.specs.Program.{Program}
-use Rattle.lisp_forms.specs.Program.{Expands, IsRefusal as IsRefusalOfData}
-use Rattle.plain_program.specs.Plain.{first_unbuilt}
+use Rattle.lisp_forms.specs.Program.{IsRefusal as IsRefusalOfData}
 use Rattle.form_shapes.specs.declared.refusal.ExpandRefusal.{ExpandRefusal}
 use Rattle.form_shapes.specs.declared.refusal.ExpandRefusal.TheVariants.{Refused as RefusedData, Memory as NoMemoryForForms}
-use Rattle.lisp_session.specs.Programs.{IsRefused, as_data, as_text, as_unbuilt, first_tables, not_built}
-use Rattle.lisp_session.specs.Reading.{IsRefusal, of_data, of_text}
+use Rattle.lisp_session.specs.Programs.{as_data, as_text, as_unbuilt, first_tables}
+use Rattle.lisp_session.specs.Reading.{IsRefusal, IsUnbuilt, IsWhole, of_data, of_text}
 use Rattle.lisp_session.specs.declared.program.Refusal.{Refusal}
+use Rattle.lisp_session.specs.declared.program.Refusal.TheVariants.{Refused, Memory as NoMemory}
 
 -- the error that `?` passes on is the same
 passed_on : {T : Type 0} (result : Result T Refusal) (refusal : Refusal) (P : Refusal → Type 0) → IsErrAnd result (λ e. e ≡ refusal)
@@ -47,19 +47,11 @@ data_passed result bytes symbols literals symbols' literals' read r s l is reads
     let first = rw (s, l) at reads in
     passed_on result (of_data r) (IsRefusal bytes) is (data_refused bytes (tables_of symbols' literals') read r first h)
 
--- what one answer holds
-held_by : {A E : Type 0} → A → Result A E → A
-held_by x (Ok y) = y
-held_by x (Err e) = x
+-- nor is a whole program with a form that is not run yet
+unbuilt_refused : (bytes : List ℕ) (tables : Tables) (whole : Program) (r : Refusal) → IsWhole bytes tables whole → IsUnbuilt whole r → IsRefusal bytes r
+unbuilt_refused bytes tables whole (Refused number place) reads found = as_unbuilt tables reads.read whole reads.reads reads.expands found.0 found.1
+unbuilt_refused bytes tables whole NoMemory reads found = tt
 
--- an answer holds one thing
-pub holds_one : {A E : Type 0} (r : Result A E) (x y : A) → r ≡ Ok x → r ≡ Ok y → x ≡ y
-unfolding held_by
-holds_one r x y h k = sym (ap (held_by x) h) ∙ ap (held_by x) k
-
--- data with a form that is not run yet
-pub unbuilt_told : (bytes : List ℕ) (symbols literals symbols' literals' : List (List ℕ)) (read : List Data) (whole : Program) (place : ℕ)
-    → symbols ≡ first_symbols → literals ≡ [] → Reads bytes (tables_of symbols literals) (tables_of symbols' literals') read
-    → Expands symbols' literals' read whole → first_unbuilt whole.forms ≡ Some place → IsRefused bytes not_built place
-unbuilt_told bytes symbols literals symbols' literals' read whole place s l reads x found =
-    as_unbuilt (tables_of symbols' literals') read whole (rw (s, l) at reads) x found refl
+pub unbuilt_passed : {T : Type 0} (result : Result T Refusal) (bytes : List ℕ) (tables : Tables) (whole : Program) (r : Refusal) → IsWhole bytes tables whole
+    → IsErrAnd result (λ e. e ≡ r) → IsUnbuilt whole r → IfErr result (IsRefusal bytes)
+unbuilt_passed result bytes tables whole r reads is found = passed_on result r (IsRefusal bytes) is (unbuilt_refused bytes tables whole r reads found)

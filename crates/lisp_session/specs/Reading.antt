@@ -1,12 +1,19 @@
 -- What reading a program answers.
-use Rattle.std.specs.Prelude.{ℕ, List}
+use Rattle.std.specs.Prelude.{◌≡◌, ℕ, List, Some, None}
+use Rattle.lisp_program.specs.Program.{Program}
+use Rattle.lisp_data.specs.Data.{Data}
+use Rattle.lisp_reader.specs.Reading.{Reads as ReadsData}
+use Rattle.lisp_reader.specs.Tables.{Tables}
+use Rattle.lisp_forms.specs.Program.{Expands}
+use Rattle.plain_program.specs.Plain.{first_unbuilt, plain_forms}
+use Rattle.plain_program.specs.Forms.{PlainForms}
 use Rattle.form_shapes.specs.declared.refusal.ExpandRefusal.{ExpandRefusal}
 use Rattle.form_shapes.specs.declared.refusal.ExpandRefusal.TheVariants.{Refused as RefusedData, Memory as NoMemoryForForms}
 use Rattle.lisp_reader.specs.declared.refusal.ReadRefusal.{ReadRefusal}
 use Rattle.lisp_reader.specs.declared.refusal.ReadRefusal.TheVariants.{Refused as RefusedText, Memory as NoMemoryForData}
 use Rattle.lisp_session.specs.declared.program.Refusal.{Refusal}
 use Rattle.lisp_session.specs.declared.program.Refusal.TheVariants.{Refused, Memory}
-use Rattle.lisp_session.specs.Programs.{IsRefused}
+use Rattle.lisp_session.specs.Programs.{IsRefused, first_tables, not_built}
 
 -- the refusal of a text
 abbrev pub of_text : ReadRefusal → Refusal
@@ -22,3 +29,19 @@ of_data NoMemoryForForms = Memory
 abbrev pub IsRefusal : List ℕ → Refusal → Type 0
 IsRefusal bytes (Refused number place) = IsRefused bytes number place
 IsRefusal bytes Memory = Unit {0}
+
+-- the bytes read as data that stand for this whole program, with these symbols and string literals
+pub record IsWhole (bytes : List ℕ) (tables : Tables) (whole : Program) : Type 0 where
+  pub read : List Data
+  pub reads : ReadsData bytes first_tables tables read
+  pub expands : Expands tables.symbols tables.literals read whole
+
+-- all forms of a whole program are run, and these are those of main in the kinds that are run
+pub record IsPlain (whole : Program) (forms : PlainForms) : Type 0 where
+  pub built : first_unbuilt whole.forms ≡ None
+  pub is : forms ≡ plain_forms whole.forms
+
+-- the first form of a whole program that is not run yet; want of memory says nothing
+abbrev pub IsUnbuilt : Program → Refusal → Type 0
+IsUnbuilt whole (Refused number place) = (first_unbuilt whole.forms ≡ Some place) × (number ≡ not_built)
+IsUnbuilt whole Memory = Unit {0}

@@ -79,7 +79,7 @@ pub(crate) fn answer_to(alloc: Global, bytes: &[u8]) -> Result<Answer, Memory>
 {
     let program = read(alloc, bytes);
     match &program {
-        Ok(reading) => Ok(run_text(alloc, reading)?),
-        Err(refusal) => Ok(refusal_text(alloc, refusal)?),
+        Ok(reading) => run_text(alloc, reading),
+        Err(refusal) => refusal_text(alloc, refusal),
     }
 }

@@ -1,9 +1,11 @@
-ghost use Rattle.std.specs.Prelude.{◌≡◌, IfOk};
+ghost use Rattle.std.specs.Prelude.{◌≡◌, [], IfOk};
 ghost use Rattle.std.specs.Result.{IfErr};
+ghost use Rattle.symbol_table.specs.Names.{first_symbols};
+ghost use Rattle.lisp_program.specs.Program.{program_of};
 ghost use Rattle.lisp_reader.specs.Tables.{tables_of};
 ghost use Rattle.plain_program.specs.Forms.{forms_of};
 ghost use Rattle.lisp_session.specs.Programs.{Reads};
-ghost use Rattle.lisp_session.specs.Reading.{IsRefusal, of_data, of_text};
+ghost use Rattle.lisp_session.specs.Reading.{IsPlain, IsRefusal, IsUnbuilt, IsWhole, of_data, of_text};
 ghost use Rattle.lisp_session.specs.declared.program.Refusal.TheVariants.{Memory};
 
 use form_shapes::refusal::ExpandRefusal;
@@ -70,6 +72,35 @@ impl From<ExpandRefusal> for Refusal {
     }
 }
 
+/// The whole program that these bytes stand for, whatever of it is run, with their names and string literals.
+fn whole_program(
+    alloc: Global,
+    bytes: &[u8],
+    symbols: &mut Symbols,
+    texts: &mut Texts,
+) -> Result<Program, Refusal>
+    requires { (symbols.now ≡ first_symbols) × (texts.now ≡ []) }
+    ensures read { IfOk result (λ program. IsWhole bytes.now (tables_of symbols.new texts.new) (program_of program)) }
+    ensures refused { IfErr result (IsRefusal bytes.now) }
+{
+    let data = read_program(alloc, bytes, symbols, texts)?;
+    Ok(expand(alloc, data.as_slice(), symbols, texts)?)
+}
+
+/// The forms of main in the kinds that are run. It errs at the first form that is not run yet.
+fn plain_main(alloc: Global, program: &Program) -> Result<Vec<PlainNode>, Refusal>
+    ensures plain { IfOk result (λ forms. IsPlain (program_of program.now) (forms_of forms.items)) }
+    ensures refused { IfErr result (IsUnbuilt (program_of program.now)) }
+{
+    if let Some(place) = first_unbuilt(program.main()) {
+        return Err(Refusal::Refused {
+            number: NOT_BUILT,
+            place,
+        });
+    }
+    Ok(plain_nodes(alloc, program.main())?)
+}
+
 /// Reads the program that these bytes are.
 pub(crate) fn read(alloc: Global, bytes: &[u8]) -> Result<Reading, Refusal>
     ensures read { IfOk result (λ reading. Reads bytes.now (tables_of reading.symbols reading.texts) (record { forms = forms_of reading.forms.items; specials = reading.program.specials })) }
@@ -77,15 +108,8 @@ pub(crate) fn read(alloc: Global, bytes: &[u8]) -> Result<Reading, Refusal>
 {
     let mut symbols = Symbols::new(alloc)?;
     let mut texts = Texts::new(alloc)?;
-    let data = read_program(alloc, bytes, &mut symbols, &mut texts)?;
-    let program = expand(alloc, data.as_slice(), &symbols, &texts)?;
-    if let Some(place) = first_unbuilt(program.main()) {
-        return Err(Refusal::Refused {
-            number: NOT_BUILT,
-            place,
-        });
-    }
-    let forms = plain_nodes(alloc, program.main())?;
+    let program = whole_program(alloc, bytes, &mut symbols, &mut texts)?;
+    let forms = plain_main(alloc, &program)?;
     Ok(Reading {
         program,
         forms,
