@@ -1,5 +1,5 @@
 -- The text of a run, and what was read for it.
-use Rattle.std.proofs.Common.{◌≡◌, ℕ, inl, inr, List, [], ◌∷◌, ◌++◌, Bool, true, false, cond, Result, Ok, Err, IfOk, refl, ap, sym, subst, ◌∙◌}
+use Rattle.std.proofs.Common.{◌≡◌, ℕ, inl, inr, List, [], ◌∷◌, ◌++◌, Bool, true, false, cond, refl, ap, sym, subst, ◌∙◌}
 use Rattle.plain_program.specs.Program.{PlainProgram}
 use Rattle.world_semantics.specs.declared.entry.Entry.{Entry}
 use Rattle.thread_semantics.specs.State.{ThreadState}
@@ -39,9 +39,3 @@ run_written bytes text tables program journal report r e reads =
       }),
       subst (λ n. IsRunStatus n) (sym which) (run_status r.last.threads),
     )
-
--- what is answered of whatever bytes are so holds of these
-pub told_of : {A E : Type 0} (r : Result A E) (Q : List ℕ → Type 0) (P : List ℕ → A → Type 0) (bytes : List ℕ) → IfOk r (λ a. (b : List ℕ) → Q b → P b a) → Q bytes
-    → IfOk r (P bytes)
-told_of (Ok a) Q P bytes h q = h bytes q
-told_of (Err e) Q P bytes h q = tt

@@ -1,4 +1,5 @@
 ghost use Rattle.std.specs.Prelude.{◌≡◌, ◌++◌, ℕ, List, IfOk};
+ghost use Rattle.std.specs.Result.{IfErr};
 ghost use Rattle.std.specs.String.{string_bytes};
 ghost use Rattle.lisp_journal.specs.Journal.{journal_text};
 ghost use Rattle.lisp_journal.specs.Report.{report_text};
@@ -73,13 +74,20 @@ fn refusal_text(alloc: Global, refusal: &Refusal) -> Result<Answer, Memory>
     }
 }
 
+/// The text to write for what was read of some bytes.
+fn answer_of(alloc: Global, program: &Result<Reading, Refusal>) -> Result<Answer, Memory>
+    ensures { (bytes : List ℕ) → IfOk program.now (λ reading. Reads bytes (tables_of reading.symbols reading.texts) (record { forms = forms_of reading.forms.items; specials = reading.program.specials })) → IfErr program.now (IsRefusal bytes) → IfOk result (Answers bytes) }
+{
+    match program {
+        Ok(reading) => run_text(alloc, reading),
+        Err(refusal) => refusal_text(alloc, refusal),
+    }
+}
+
 /// The text to write for these bytes.
 pub(crate) fn answer_to(alloc: Global, bytes: &[u8]) -> Result<Answer, Memory>
     ensures { IfOk result (Answers bytes.now) }
 {
     let program = read(alloc, bytes);
-    match &program {
-        Ok(reading) => run_text(alloc, reading),
-        Err(refusal) => refusal_text(alloc, refusal),
-    }
+    answer_of(alloc, &program)
 }

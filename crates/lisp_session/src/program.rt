@@ -101,6 +101,22 @@ fn plain_main(alloc: Global, program: &Program) -> Result<Vec<PlainNode>, Refusa
     Ok(plain_nodes(alloc, program.main())?)
 }
 
+/// The program that these bytes are, with the forms of main that are run, and with their names and string literals.
+fn read_into(
+    alloc: Global,
+    bytes: &[u8],
+    symbols: &mut Symbols,
+    texts: &mut Texts,
+) -> Result<(Program, Vec<PlainNode>), Refusal>
+    requires { (symbols.now ≡ first_symbols) × (texts.now ≡ []) }
+    ensures read { IfOk result (λ program. Reads bytes.now (tables_of symbols.new texts.new) (record { forms = forms_of program.1.items; specials = program.0.specials })) }
+    ensures refused { IfErr result (IsRefusal bytes.now) }
+{
+    let program = whole_program(alloc, bytes, symbols, texts)?;
+    let forms = plain_main(alloc, &program)?;
+    Ok((program, forms))
+}
+
 /// Reads the program that these bytes are.
 pub(crate) fn read(alloc: Global, bytes: &[u8]) -> Result<Reading, Refusal>
     ensures read { IfOk result (λ reading. Reads bytes.now (tables_of reading.symbols reading.texts) (record { forms = forms_of reading.forms.items; specials = reading.program.specials })) }
@@ -108,8 +124,7 @@ pub(crate) fn read(alloc: Global, bytes: &[u8]) -> Result<Reading, Refusal>
 {
     let mut symbols = Symbols::new(alloc)?;
     let mut texts = Texts::new(alloc)?;
-    let program = whole_program(alloc, bytes, &mut symbols, &mut texts)?;
-    let forms = plain_main(alloc, &program)?;
+    let (program, forms) = read_into(alloc, bytes, &mut symbols, &mut texts)?;
     Ok(Reading {
         program,
         forms,

@@ -1,6 +1,6 @@
 use Rattle.lisp_program.specs.Program.{program_of}
 use Rattle.lisp_session.proofs.Read.{unbuilt_passed}
-use Rattle.lisp_session.proofs.program.read.Goals as goal
+use Rattle.lisp_session.proofs.program.read_into.Goals as goal
 
 pub returns-in_err-forms-clause-refused : goal.returns-in_err-forms-clause-refused
 returns-in_err-forms-clause-refused c =
