@@ -175,7 +175,7 @@ impl Evaluator {
         ensures { OnOk result (self.new ≡ asked_after question.now self.old) }
     {
         match question {
-            Question::Read(symbol) => Ok(self.read(*symbol)?),
+            Question::Read(symbol) => self.read(*symbol),
             Question::Write(symbol) => {
                 self.write(*symbol);
                 Ok(())
@@ -231,7 +231,7 @@ impl Evaluator {
             return Ok(());
         }
         match opening {
-            Opening::Bind(symbol, above) => Ok(self.bind(alloc, *symbol, *above as usize, place)?),
+            Opening::Bind(symbol, above) => self.bind(alloc, *symbol, *above as usize, place),
         }
     }
 

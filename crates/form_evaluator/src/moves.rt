@@ -104,10 +104,10 @@ impl Evaluator {
         let front = self.ahead.front();
         match self.doing {
             Doing::Running => match &front {
-                Some(Step::Act(act)) => Ok(self.act(*act)?),
-                Some(Step::Ask(question)) => Ok(self.ask(question)?),
-                Some(Step::Enter(opening, place)) => Ok(self.enter(alloc, opening, *place)?),
-                Some(Step::Leave) => Ok(self.leave_frame()?),
+                Some(Step::Act(act)) => self.act(*act),
+                Some(Step::Ask(question)) => self.ask(question),
+                Some(Step::Enter(opening, place)) => self.enter(alloc, opening, *place),
+                Some(Step::Leave) => self.leave_frame(),
                 _ => Ok(()),
             },
             Doing::Leaving(_) => {
@@ -127,8 +127,8 @@ impl Evaluator {
         let front = self.ahead.front();
         match self.doing {
             Doing::Running => match &front {
-                Some(Step::Ask(question)) => Ok(self.answer(question, reply)?),
-                Some(Step::Test(symbol, skipped)) => Ok(self.test(reply, *symbol, *skipped)?),
+                Some(Step::Ask(question)) => self.answer(question, reply),
+                Some(Step::Test(symbol, skipped)) => self.test(reply, *symbol, *skipped),
                 _ => Ok(()),
             },
             Doing::Leaving(_) => {
@@ -148,7 +148,7 @@ impl Evaluator {
                 self.ahead.advance();
                 Ok(())
             }
-            Question::Read(_) => Ok(self.take_value(reply)?),
+            Question::Read(_) => self.take_value(reply),
             Question::Define(symbol) => {
                 self.values.pop();
                 self.values.push(Value::symbol(*symbol))?;

@@ -84,15 +84,15 @@ fn push_under(
     ensures { IfOk result (Writes nodes.now from count (under_steps kind) steps.old.items steps.new.items) }
 {
     match kind {
-        PlainKind::Constant(_) => Ok(push_forms(nodes, from, count, false, steps)?),
-        PlainKind::Plus => Ok(push_forms(nodes, from, count, false, steps)?),
-        PlainKind::Print => Ok(push_forms(nodes, from, count, false, steps)?),
-        PlainKind::Progn => Ok(push_body(nodes, from, count, steps)?),
-        PlainKind::Special(_) => Ok(push_forms(nodes, from, count, false, steps)?),
-        PlainKind::Setq(_) => Ok(push_forms(nodes, from, count, false, steps)?),
-        PlainKind::Defvar(_) => Ok(push_forms(nodes, from, count, false, steps)?),
-        PlainKind::Let => Ok(push_forms(nodes, from, count, false, steps)?),
-        PlainKind::Bind(_, _) => Ok(push_body(nodes, from, count, steps)?),
+        PlainKind::Constant(_) => push_forms(nodes, from, count, false, steps),
+        PlainKind::Plus => push_forms(nodes, from, count, false, steps),
+        PlainKind::Print => push_forms(nodes, from, count, false, steps),
+        PlainKind::Progn => push_body(nodes, from, count, steps),
+        PlainKind::Special(_) => push_forms(nodes, from, count, false, steps),
+        PlainKind::Setq(_) => push_forms(nodes, from, count, false, steps),
+        PlainKind::Defvar(_) => push_forms(nodes, from, count, false, steps),
+        PlainKind::Let => push_forms(nodes, from, count, false, steps),
+        PlainKind::Bind(_, _) => push_body(nodes, from, count, steps),
     }
 }
 

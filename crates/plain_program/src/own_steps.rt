@@ -15,13 +15,9 @@ pub fn push_opening(node: &PlainNode, steps: &mut Vec<Step>) -> Result<(), Memor
     match node.kind {
         PlainKind::Constant(_) | PlainKind::Plus | PlainKind::Print | PlainKind::Progn => Ok(()),
         PlainKind::Special(_) | PlainKind::Setq(_) | PlainKind::Let => Ok(()),
-        PlainKind::Defvar(symbol) => {
-            steps.extend_from_slice(&[Step::Test(symbol, 0)])?;
-            Ok(())
-        }
+        PlainKind::Defvar(symbol) => push_one(Step::Test(symbol, 0), steps),
         PlainKind::Bind(symbol, above) => {
-            steps.extend_from_slice(&[Step::Enter(Opening::Bind(symbol, above), node.place)])?;
-            Ok(())
+            push_one(Step::Enter(Opening::Bind(symbol, above), node.place), steps)
         }
     }
 }
@@ -32,19 +28,27 @@ pub fn push_closing(node: &PlainNode, start: usize, steps: &mut Vec<Step>) -> Re
     ensures { OnOk result (steps.new.items ≡ closing_steps node.now.kind start steps.old.items) }
 {
     match node.kind {
-        PlainKind::Constant(value) => Ok(push_in_place(Step::Act(Act::Push(value)), start, steps)?),
-        PlainKind::Plus => Ok(steps.extend_from_slice(&[Step::Act(Act::Add)])?),
-        PlainKind::Print => Ok(steps.extend_from_slice(&[Step::Ask(Question::Print)])?),
+        PlainKind::Constant(value) => push_in_place(Step::Act(Act::Push(value)), start, steps),
+        PlainKind::Plus => push_one(Step::Act(Act::Add), steps),
+        PlainKind::Print => push_one(Step::Ask(Question::Print), steps),
         PlainKind::Progn | PlainKind::Let => Ok(()),
-        PlainKind::Special(symbol) => {
-            Ok(push_in_place(Step::Ask(Question::Read(symbol)), start, steps)?)
-        }
-        PlainKind::Setq(symbol) => Ok(steps.extend_from_slice(&[Step::Ask(Question::Write(
-            symbol,
-        ))])?),
-        PlainKind::Defvar(symbol) => Ok(push_defined(symbol, start, steps)?),
-        PlainKind::Bind(_, _) => Ok(steps.extend_from_slice(&[Step::Leave])?),
+        PlainKind::Special(symbol) => push_in_place(
+            Step::Ask(Question::Read(symbol)),
+            start,
+            steps,
+        ),
+        PlainKind::Setq(symbol) => push_one(Step::Ask(Question::Write(symbol)), steps),
+        PlainKind::Defvar(symbol) => push_defined(symbol, start, steps),
+        PlainKind::Bind(_, _) => push_one(Step::Leave, steps),
     }
+}
+
+/// Writes one step.
+fn push_one(step: Step, steps: &mut Vec<Step>) -> Result<(), Memory>
+    ensures { OnOk result (steps.new.items ≡ steps.old.items ++ step ∷ []) }
+{
+    steps.extend_from_slice(&[step])?;
+    Ok(())
 }
 
 /// Puts one step in place of all from `start` on.

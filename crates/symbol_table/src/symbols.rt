@@ -1,4 +1,4 @@
-ghost use Rattle.std.specs.Prelude.{◌≡◌, ◌<◌, ◌↔◌, length, IsSome, IfOk, slice_get, option_copied};
+ghost use Rattle.std.specs.Prelude.{◌≡◌, [], ◌<◌, ◌↔◌, length, IsSome, IfOk, OnOk, slice_get, option_copied};
 ghost use Rattle.symbol_table.specs.Names.{Interns, IsTable, first_symbols};
 
 use crate::error::InternError;
@@ -22,17 +22,26 @@ impl Model for Symbols {
     ghost view = { λ s. s.table };
 }
 
+/// Puts the five first names into a table without names.
+fn push_first(table: &mut Table) -> Result<(), Memory>
+    requires { table.old ≡ [] }
+    ensures { OnOk result (table.new ≡ first_symbols) }
+{
+    table.push("NIL")?;
+    table.push("T")?;
+    table.push(":WARN")?;
+    table.push(":PUNT")?;
+    table.push(":FORCE")?;
+    Ok(())
+}
+
 impl Symbols {
     /// The names NIL, T, :WARN, :PUNT and :FORCE, numbered 0 to 4.
     pub fn new(alloc: Global) -> Result<Symbols, Memory>
         ensures { IfOk result (λ symbols. symbols ≡ first_symbols) }
     {
         let mut table = Table::new(alloc);
-        table.push("NIL")?;
-        table.push("T")?;
-        table.push(":WARN")?;
-        table.push(":PUNT")?;
-        table.push(":FORCE")?;
+        push_first(&mut table)?;
         Ok(Symbols { table })
     }
 
