@@ -1,4 +1,4 @@
-ghost use Rattle.std.specs.Prelude.{◌∷◌, []};
+ghost use Rattle.std.specs.Prelude.{◌≡◌, ◌∷◌, []};
 ghost use Rattle.lisp_base.specs.Writing.{Wrote};
 ghost use Rattle.lisp_forms.specs.Flat.{flat_one, node, repeated};
 ghost use Rattle.lisp_forms.specs.Rows;
@@ -10,6 +10,7 @@ use lisp_base::id::{Place, SymbolId};
 use lisp_base::value::{Node, Value};
 use lisp_base::writer::Writer;
 use lisp_program::form::CoreKind;
+use lisp_program::function::Primitive;
 
 /// Writes one node.
 pub fn push_node(kind: Expanded, place: Place, parts: u32, nodes: &mut Writer<ExpandedNode>)
@@ -49,6 +50,16 @@ pub fn push_number(number: i64, place: Place, nodes: &mut Writer<ExpandedNode>)
     ensures { Wrote nodes.old nodes.new (flat_one (Rows.number_form number place)) }
 {
     push_node(constant(Node::Int(number)), place, 0, nodes)
+}
+
+/// The number that changes nothing where a function is folded.
+pub fn unit_of(function: Primitive) -> i64
+    ensures { result ≡ Rows.unit_of function }
+{
+    match function {
+        Primitive::Multiply => 1,
+        _ => 0,
+    }
 }
 
 /// Writes a lexical variable.

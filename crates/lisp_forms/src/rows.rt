@@ -13,7 +13,7 @@ ghost use Rattle.lisp_forms.specs.Trees.{first as first_of, form, nil_form, only
 
 use crate::expand::{push_all, push_by_roles, push_first, push_head};
 use crate::nodes::{
-    push_form, push_forms, push_local, push_nil, push_node, push_number, push_true,
+    push_form, push_forms, push_local, push_nil, push_node, push_number, push_true, unit_of,
 };
 use form_shapes::bindings::body_of;
 use form_shapes::expanded::{Expanded, ExpandedNode};
@@ -430,16 +430,6 @@ pub fn push_fold(
     }
     push_forms(count - 1, &CoreKind::Apply(function), place, 2, nodes);
     push_all(alloc, base, levels, depth, arguments, nodes)
-}
-
-/// The number that changes nothing.
-fn unit_of(function: Primitive) -> i64
-    ensures { result ≡ Rows.unit_of function }
-{
-    match function {
-        Primitive::Multiply => 1,
-        _ => 0,
-    }
 }
 
 /// Writes a function of the first of these twice.
