@@ -1,5 +1,5 @@
 -- What is written in several steps, where memory may run out.
-use Rattle.std.specs.Prelude.{List, ◌++◌, Bool, true, false, Option, Some, None, ◌≡◌, ⊤}
+use Rattle.std.specs.Prelude.{List, [], ◌++◌, Bool, true, false, Option, Some, None, ◌≡◌, ⊤}
 
 -- what is written so far, or nothing where memory ran out
 abbrev pub shown : {A : Type 0} → Bool → List A → Option (List A)
@@ -11,3 +11,8 @@ abbrev pub Wrote : {A : Type 0} → (old new : Option (List A)) → List A → T
 Wrote old None items = ⊤
 Wrote None (Some after) items = ⊥
 Wrote (Some before) (Some after) items = after ≡ before ++ items
+
+-- nothing is written, where memory did not run out
+abbrev pub emptied : {A : Type 0} → Option (List A) → Option (List A)
+emptied None = None
+emptied (Some items) = Some []

@@ -1,7 +1,7 @@
-ghost use Rattle.std.specs.Prelude.{◌≡◌, None, Some, [], IfOk, encode_utf8};
+ghost use Rattle.std.specs.Prelude.{◌≡◌, None, Some, [], IfOk, IfNone, IfSome, encode_utf8};
 ghost use Rattle.std.specs.Fmt.{decimal, signed_decimal};
 ghost use Rattle.std.specs.String.{string_bytes};
-ghost use Rattle.lisp_base.specs.Writing.{Wrote};
+ghost use Rattle.lisp_base.specs.Writing.{Wrote, emptied};
 
 use crate::memory::Memory;
 use std::alloc::Global;
@@ -72,6 +72,24 @@ impl TextWriter {
             Ok(digits) => self.push_str(digits.as_str()),
             Err(_) => self.fill(),
         }
+    }
+
+    /// What is written so far: `None` exactly where memory ran out.
+    pub fn written(&self) -> Option<&str>
+        ensures some { IfSome result (λ text. self.now ≡ Some text.now) }
+        ensures none { IfNone result (self.now ≡ None) }
+    {
+        if self.is_full {
+            return None;
+        }
+        Some(self.text.as_str())
+    }
+
+    /// Forgets what is written, and keeps the memory that it took. Where memory ran out it stays so.
+    pub fn clear(&mut self)
+        ensures { self.new ≡ emptied self.old }
+    {
+        self.text.clear();
     }
 
     /// Takes note that memory ran out.

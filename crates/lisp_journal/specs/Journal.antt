@@ -69,3 +69,8 @@ entry_text symbols literals e =
 -- the journal: its first line, and a line for each entry
 abbrev pub journal_text : (symbols literals : List (List ℕ)) → List Entry → List ℕ
 journal_text symbols literals entries = codes "sbcl-journal 1\n" ++ flat_map (entry_text symbols literals) entries
+
+-- what is left to write of it, with its first line or without
+abbrev pub journal_left : (is_begun : Bool) → (symbols literals : List (List ℕ)) → List Entry → List ℕ
+journal_left false symbols literals entries = journal_text symbols literals entries
+journal_left true symbols literals entries = flat_map (entry_text symbols literals) entries

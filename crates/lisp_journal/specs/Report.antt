@@ -1,5 +1,5 @@
 -- The text of the report.
-use Rattle.std.specs.Prelude.{ℕ, suc, List, [], ◌∷◌, ◌++◌, if◌then◌else◌, ◌==◌, Option, Some, None, codes}
+use Rattle.std.specs.Prelude.{ℕ, suc, Bool, true, false, cond, List, [], ◌∷◌, ◌++◌, if◌then◌else◌, ◌==◌, Option, Some, None, codes}
 use Rattle.std.specs.Fmt.{decimal}
 use Rattle.lisp_base.specs.declared.value.Node.{Node}
 use Rattle.lisp_base.specs.declared.value.Node.TheVariants.{Symbol}
@@ -63,6 +63,21 @@ held_text symbols literals (Some v) = value_text symbols literals v
 abbrev pub global_text : (symbols literals : List (List ℕ)) → Global → List ℕ
 global_text symbols literals g = codes "global " ++ value_text symbols literals (Symbol g.symbol) ++ codes " " ++ held_text symbols literals g.value ++ codes "\n"
 
+-- the last lines: the status, and the end
+abbrev pub end_text : ℕ → List ℕ
+end_text status = codes "status " ++ decimal status ++ codes "\nend\n"
+
 -- the report: its first line, the lines of each thread, a line for each special variable, the status, and its last line
 abbrev pub report_text : (symbols literals : List (List ℕ)) → Report → List ℕ
-report_text symbols literals r = codes "report 1\n" ++ thread_texts symbols literals 0 r.threads ++ flat_map (global_text symbols literals) r.globals ++ codes "status " ++ decimal r.status ++ codes "\nend\n"
+report_text symbols literals r = codes "report 1\n" ++ thread_texts symbols literals 0 r.threads ++ flat_map (global_text symbols literals) r.globals ++ end_text r.status
+
+-- what is left to write of a report after its first line: open forms, the lines of threads from a number on, lines of special
+-- variables, and the last lines or nothing
+abbrev pub lines_left : (is_done : Bool) → (symbols literals : List (List ℕ)) → List OpenForm → (number : ℕ) → List ThreadLine → List Global → (status : ℕ) → List ℕ
+lines_left is_done symbols literals forms number threads globals status =
+    flat_map open_text forms ++ (thread_texts symbols literals number threads ++ (flat_map (global_text symbols literals) globals ++ cond is_done [] (end_text status)))
+
+-- the same with its first line or without
+abbrev pub report_left : (is_begun is_done : Bool) → (symbols literals : List (List ℕ)) → List OpenForm → (number : ℕ) → List ThreadLine → List Global → (status : ℕ) → List ℕ
+report_left true is_done symbols literals forms number threads globals status = lines_left is_done symbols literals forms number threads globals status
+report_left false is_done symbols literals forms number threads globals status = codes "report 1\n" ++ lines_left is_done symbols literals forms number threads globals status

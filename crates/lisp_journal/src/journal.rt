@@ -1,6 +1,5 @@
 ghost use Rattle.std.specs.Prelude.{◌≡◌, ◌++◌, codes, IfOk};
 ghost use Rattle.std.specs.Fmt.{decimal};
-ghost use Rattle.std.specs.List.{flat_map};
 ghost use Rattle.std.specs.String.{string_bytes};
 ghost use Rattle.lisp_base.specs.Writing.{Wrote};
 ghost use Rattle.lisp_base.specs.declared.value.Node.TheVariants.{Symbol};
@@ -9,6 +8,7 @@ ghost use Rattle.lisp_journal.specs.Journal.{actor_text, cause_text, ending_text
 ghost use Rattle.lisp_journal.specs.Line.{value_text};
 
 use crate::line::{push_condition, push_on_line, push_symbol, push_value};
+use crate::lines::{Lines, whole_text};
 use crate::names::Names;
 use lisp_base::condition::Condition;
 use lisp_base::id::{Actor, SymbolId};
@@ -17,6 +17,7 @@ use lisp_base::text_writer::TextWriter;
 use lisp_reader::print;
 use lisp_reader::print::print_string;
 use std::alloc::Global;
+use std::marker::Model;
 use world_semantics::entry::Entry;
 use world_semantics::op::{Op, Printed, Reply};
 use world_semantics::phase::Ending;
@@ -169,11 +170,53 @@ fn push_entry(alloc: Global, names: &Names, text: &mut TextWriter, entry: &Entry
     text.push_str("\n");
 }
 
-fn push_entries(alloc: Global, names: &Names, text: &mut TextWriter, entries: &[Entry])
-    ensures { Wrote text.old text.new (flat_map (entry_text names.now.symbols.now names.now.texts.now) entries.now) }
-{
-    for entry in entries {
-        push_entry(alloc, names, text, entry);
+/// The lines of a journal that are left to write: the first line, and one for each entry. Contracts see their text.
+#[derive(Drop)]
+pub struct JournalLines<'a> {
+    names: Names<'a>,
+    is_begun: bool,
+    entries: &'a [Entry],
+}
+
+impl<'a> Model for JournalLines<'a> {
+    ghost use Rattle.std.specs.Prelude.{List, ℕ};
+    ghost use Rattle.lisp_journal.specs.Journal.{journal_left};
+
+    ghost Value = { List ℕ };
+
+    ghost view = { λ j. journal_left j.is_begun j.names.symbols.now j.names.texts.now j.entries.now };
+}
+
+impl<'a> JournalLines<'a> {
+    /// All lines of the journal of these entries, with these names.
+    pub fn of(names: Names<'a>, entries: &'a [Entry]) -> Self
+        ensures { result ≡ journal_text names.entry.symbols.now names.entry.texts.now entries.now }
+    {
+        JournalLines {
+            names,
+            is_begun: false,
+            entries,
+        }
+    }
+}
+
+impl<'a> Lines for JournalLines<'a> {
+    ghost left = { λ j. j };
+
+    fn write_next(&mut self, alloc: Global, text: &mut TextWriter) -> bool {
+        if !self.is_begun {
+            self.is_begun = true;
+            text.push_str("sbcl-journal 1\n");
+            return true;
+        }
+        match self.entries.split_first() {
+            Some((entry, rest)) => {
+                push_entry(alloc, &self.names, text, entry);
+                self.entries = rest;
+                true
+            }
+            None => false,
+        }
     }
 }
 
@@ -181,8 +224,5 @@ fn push_entries(alloc: Global, names: &Names, text: &mut TextWriter, entries: &[
 pub fn write_journal(alloc: Global, names: &Names, entries: &[Entry]) -> Result<String, Memory>
     ensures { IfOk result (λ text. string_bytes text ≡ journal_text names.now.symbols.now names.now.texts.now entries.now) }
 {
-    let mut text = TextWriter::new(alloc);
-    text.push_str("sbcl-journal 1\n");
-    push_entries(alloc, names, &mut text, entries);
-    text.finish()
+    whole_text(alloc, &mut JournalLines::of(*names, entries))
 }

@@ -3,6 +3,7 @@
 
 pub mod journal;
 mod line;
+pub mod lines;
 pub mod names;
 pub mod refusal;
 pub mod report;

@@ -1,17 +1,18 @@
 ghost use Rattle.std.specs.Prelude.{◌≡◌, IfOk};
 ghost use Rattle.std.specs.String.{string_bytes};
 ghost use Rattle.lisp_base.specs.Writing.{Wrote};
-ghost use Rattle.lisp_journal.specs.Report.{name_text, phase_text, standing_text, frame_word, open_text, line_text, thread_text, held_text, global_text, report_text, thread_texts};
-ghost use Rattle.std.specs.List.{flat_map};
+ghost use Rattle.lisp_journal.specs.Report.{name_text, phase_text, standing_text, frame_word, open_text, line_text, held_text, global_text, end_text, report_text};
 
 use crate::journal::{push_ending, push_named};
 use crate::line::push_value;
+use crate::lines::{Lines, whole_text};
 use crate::names::Names;
 use lisp_base::memory::Memory;
 use lisp_base::text_writer::TextWriter;
 use lisp_base::value::Value;
 use run_semantics::report::{FrameWord, OpenForm, PhaseReport, Report, ThreadLine};
 use std::alloc::Global;
+use std::marker::Model;
 use world_semantics::global::Global as SpecialVariable;
 use world_semantics::phase::Phase;
 
@@ -64,13 +65,6 @@ fn push_line(alloc: Global, names: &Names, text: &mut TextWriter, number: u64, l
     text.push_str("\n");
 }
 
-fn push_thread(alloc: Global, names: &Names, text: &mut TextWriter, number: u64, line: &ThreadLine)
-    ensures { Wrote text.old text.new (thread_text names.now.symbols.now names.now.texts.now number line.now) }
-{
-    push_line(alloc, names, text, number, line);
-    push_open_forms(alloc, text, line.machine.frames.as_slice());
-}
-
 fn frame_word(kind: FrameWord) -> &'static str
     ensures { result.now ≡ frame_word kind }
 {
@@ -87,14 +81,6 @@ fn push_open_form(alloc: Global, text: &mut TextWriter, form: &OpenForm)
     text.push_str(" ");
     text.push_decimal(alloc, u64::from(form.place.0));
     text.push_str("\n");
-}
-
-fn push_open_forms(alloc: Global, text: &mut TextWriter, forms: &[OpenForm])
-    ensures { Wrote text.old text.new (flat_map open_text forms.now) }
-{
-    for form in forms {
-        push_open_form(alloc, text, form);
-    }
 }
 
 fn push_held(alloc: Global, names: &Names, text: &mut TextWriter, value: Option<Value>)
@@ -115,19 +101,91 @@ fn push_global(alloc: Global, names: &Names, text: &mut TextWriter, global: &Spe
     text.push_str("\n");
 }
 
-fn push_globals(alloc: Global, names: &Names, text: &mut TextWriter, globals: &[SpecialVariable])
-    ensures { Wrote text.old text.new (flat_map (global_text names.now.symbols.now names.now.texts.now) globals.now) }
+/// Writes the last lines of a report: its status, and its end.
+fn push_end(alloc: Global, text: &mut TextWriter, status: u8)
+    ensures { Wrote text.old text.new (end_text status) }
 {
-    for global in globals {
-        push_global(alloc, names, text, global);
+    text.push_str("status ");
+    text.push_decimal(alloc, u64::from(status));
+    text.push_str("\nend\n");
+}
+
+/// The lines of a report that are left to write. Contracts see their text.
+#[derive(Drop)]
+pub struct ReportLines<'a> {
+    names: Names<'a>,
+    is_begun: bool,
+    /// The open forms of the thread whose line was written last.
+    forms: &'a [OpenForm],
+    threads: &'a [ThreadLine],
+    /// The number of the first of these threads.
+    number: u64,
+    globals: &'a [SpecialVariable],
+    status: u8,
+    is_done: bool,
+}
+
+impl<'a> Model for ReportLines<'a> {
+    ghost use Rattle.std.specs.Prelude.{List, ℕ, ◌+◌, ◌^◌, ◌<◌, length};
+    ghost use Rattle.lisp_journal.specs.Report.{report_left};
+
+    ghost Value = { List ℕ };
+
+    ghost view = { λ r. report_left r.is_begun r.is_done r.names.symbols.now r.names.texts.now r.forms.now r.number r.threads.now r.globals.now r.status };
+
+    ghost invariant = { λ r. r.number + length r.threads.now < 2 ^ 64 };
+}
+
+impl<'a> ReportLines<'a> {
+    /// All lines of a report, with these names.
+    pub fn of(names: Names<'a>, report: &'a Report) -> Self
+        ensures { result ≡ report_text names.entry.symbols.now names.entry.texts.now report.now }
+    {
+        ReportLines {
+            names,
+            is_begun: false,
+            forms: &[],
+            threads: report.threads.as_slice(),
+            number: 0,
+            globals: report.globals.as_slice(),
+            status: report.status,
+            is_done: false,
+        }
     }
 }
 
-fn push_threads(alloc: Global, names: &Names, text: &mut TextWriter, lines: &[ThreadLine])
-    ensures { Wrote text.old text.new (thread_texts names.now.symbols.now names.now.texts.now 0 lines.now) }
-{
-    for (number, line) in lines.iter().enumerate() {
-        push_thread(alloc, names, text, number as u64, line);
+impl<'a> Lines for ReportLines<'a> {
+    ghost left = { λ r. r };
+
+    fn write_next(&mut self, alloc: Global, text: &mut TextWriter) -> bool {
+        if !self.is_begun {
+            self.is_begun = true;
+            text.push_str("report 1\n");
+            return true;
+        }
+        if let Some((form, rest)) = self.forms.split_first() {
+            push_open_form(alloc, text, form);
+            self.forms = rest;
+            return true;
+        }
+        if let Some((line, rest)) = self.threads.split_first() {
+            push_line(alloc, &self.names, text, self.number, line);
+            self.forms = line.machine.frames.as_slice();
+            self.threads = rest;
+            self.number += 1;
+            return true;
+        }
+        if let Some((global, rest)) = self.globals.split_first() {
+            push_global(alloc, &self.names, text, global);
+            self.globals = rest;
+            return true;
+        }
+        if !self.is_done {
+            push_end(alloc, text, self.status);
+            self.is_done = true;
+            return true;
+        }
+        false
     }
 }
 
@@ -135,12 +193,5 @@ fn push_threads(alloc: Global, names: &Names, text: &mut TextWriter, lines: &[Th
 pub fn write_report(alloc: Global, names: &Names, report: &Report) -> Result<String, Memory>
     ensures { IfOk result (λ text. string_bytes text ≡ report_text names.now.symbols.now names.now.texts.now report.now) }
 {
-    let mut text = TextWriter::new(alloc);
-    text.push_str("report 1\n");
-    push_threads(alloc, names, &mut text, report.threads.as_slice());
-    push_globals(alloc, names, &mut text, report.globals.as_slice());
-    text.push_str("status ");
-    text.push_decimal(alloc, u64::from(report.status));
-    text.push_str("\nend\n");
-    text.finish()
+    whole_text(alloc, &mut ReportLines::of(*names, report))
 }
