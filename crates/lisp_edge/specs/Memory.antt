@@ -1,4 +1,4 @@
--- Sources and sinks in memory, and which of their calls fail.
+-- Sources and sinks in memory: how many bytes their calls take, and which of the calls fail.
 use Rattle.std.specs.Prelude.{◌≡◌, ℕ, ◌==◌, Bool, true, false, min, List, [], ◌∷◌, ◌++◌, length, take, drop}
 use Rattle.std.specs.List.{list_any}
 use Rattle.lisp_edge.specs.declared.answers.ReadAnswer.{ReadAnswer}
@@ -7,16 +7,18 @@ use Rattle.lisp_edge.specs.declared.answers.WriteAnswer.{WriteAnswer}
 use Rattle.lisp_edge.specs.declared.answers.WriteAnswer.TheVariants as write
 use Rattle.lisp_edge.specs.Faults.{next_count}
 
--- a source in memory: the bytes left, the numbers of the calls that fail, and how many calls and faults there were
+-- a source in memory: the bytes left, the most that one call takes, the numbers of the calls that fail, and how many calls and faults there were
 pub record Reading : Type 0 where
   pub left : List ℕ
+  pub piece : ℕ
   pub failing : List ℕ
   pub calls : ℕ
   pub faults : ℕ
 
--- a sink in memory: the bytes held, the numbers of the calls that fail, and how many calls and faults there were
+-- a sink in memory: the bytes held, the most that one call takes, the numbers of the calls that fail, and how many calls and faults there were
 pub record Holding : Type 0 where
   pub held : List ℕ
+  pub piece : ℕ
   pub failing : List ℕ
   pub calls : ℕ
   pub faults : ℕ
@@ -25,7 +27,7 @@ pub record Holding : Type 0 where
 abbrev pub is_failing : List ℕ → ℕ → Bool
 is_failing failing call = list_any (λ n. n == call) failing
 
--- the answer where these bytes are left, and the buffer has this room
+-- the answer where these bytes are left, and there is room for so many
 abbrev pub answer_with : List ℕ → ℕ → ReadAnswer
 answer_with [] room = read.End
 answer_with (x ∷ xs) room = read.Took (min room (length (x ∷ xs)))
@@ -35,9 +37,9 @@ abbrev pub read_unless : Bool → List ℕ → ℕ → ReadAnswer
 read_unless true left room = read.Failed
 read_unless false left room = answer_with left room
 
--- the answer of the next read into a buffer with this room
+-- the answer of the next read into a buffer of this length, which takes at most a piece
 abbrev pub read_answer : Reading → ℕ → ReadAnswer
-read_answer source room = read_unless (is_failing source.failing source.calls) source.left room
+read_answer source room = read_unless (is_failing source.failing source.calls) source.left (min source.piece room)
 
 -- the source after a read with this answer
 abbrev pub after_read : Reading → ReadAnswer → Reading
@@ -50,7 +52,7 @@ abbrev pub after_write : Holding → List ℕ → WriteAnswer → Holding
 after_write sink bytes (write.Took n) = record sink { held = sink.held ++ take n bytes; calls = next_count sink.calls }
 after_write sink bytes write.Failed = record sink { calls = next_count sink.calls; faults = next_count sink.faults }
 
--- a write takes all bytes, or fails
-abbrev pub TakesAll : List ℕ → WriteAnswer → Type 0
-TakesAll bytes (write.Took n) = n ≡ length bytes
-TakesAll bytes write.Failed = Unit {0}
+-- a write takes a whole piece of the bytes, or fails
+abbrev pub TakesPiece : ℕ → List ℕ → WriteAnswer → Type 0
+TakesPiece piece bytes (write.Took n) = n ≡ min piece (length bytes)
+TakesPiece piece bytes write.Failed = Unit {0}

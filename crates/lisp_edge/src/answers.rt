@@ -1,7 +1,7 @@
-/// What one call of a source's `read` came to.
+/// What a call of a source's `read` did.
 #[derive(Clone, Copy, Debug, PartialEq, Eq)]
 pub enum ReadAnswer {
-    /// So many bytes were put into the front of the buffer.
+    /// This many bytes, at least one, were put into the front of the buffer.
     Took(usize),
     /// Nothing is left to read.
     End,
@@ -9,10 +9,10 @@ pub enum ReadAnswer {
     Failed,
 }
 
-/// What one call of a sink's `write` came to.
+/// What a call of a sink's `write` did.
 #[derive(Clone, Copy, Debug, PartialEq, Eq)]
 pub enum WriteAnswer {
-    /// So many bytes were taken from the front of the buffer.
+    /// This many bytes, at least one, were taken from the front of those given.
     Took(usize),
     /// The sink failed, and counted a fault.
     Failed,

@@ -4,7 +4,7 @@ ghost use Rattle.lisp_base.specs.declared.id.Actor.{Actor};
 use lisp_base::id::Actor;
 use std::sync::atomic::{AtomicU64, Ordering};
 
-/// What tells the time, and lets it pass.
+/// Something that tells the time, and lets it pass.
 pub trait Clock {
     /// Whether an actor may read this time at this point.
     ghost may_read: { Self → Actor → ℕ → ℕ → Type 0 };
@@ -12,16 +12,16 @@ pub trait Clock {
     /// Whether passing, at this point, to the time that is due may end at this time.
     ghost may_pass: { Self → ℕ → ℕ → ℕ → Type 0 };
 
-    /// The time, as this actor reads it at this point.
+    /// The time in microseconds, as this actor reads it at this point.
     fn read(&self, by: Actor, point: u64) -> u64
         ensures { may_read self.now by point result };
 
-    /// Lets the time that is due come, and answers the time that it then is.
+    /// Lets time pass until it is `due`, and returns the time that it then is. Both are in microseconds.
     fn pass_to(&self, point: u64, due: u64) -> u64
         ensures { may_pass self.now point due result };
 }
 
-/// A clock that goes on only where it is passed to a time. It begins at 0.
+/// A clock that goes on only in calls of `pass_to`. It begins at 0.
 #[derive(Drop)]
 pub struct VirtualClock {
     time: AtomicU64,

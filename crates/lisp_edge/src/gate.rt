@@ -1,4 +1,4 @@
-/// What each worker passes before it goes on.
+/// Something that each worker passes before it goes on.
 pub trait Gate {
     /// Lets this worker in, now or later.
     fn enter(&self, worker: u32);
@@ -10,20 +10,4 @@ pub struct OpenGate;
 
 impl Gate for OpenGate {
     fn enter(&self, _worker: u32) {}
-}
-
-#[cfg(test)]
-mod tests {
-    use super::*;
-
-    fn enter_all(gate: &(impl Gate + Sync)) {
-        for worker in 0..3 {
-            gate.enter(worker);
-        }
-    }
-
-    #[test]
-    fn every_worker_enters() {
-        enter_all(&OpenGate);
-    }
 }

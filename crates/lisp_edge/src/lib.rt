@@ -8,3 +8,4 @@ pub mod memory;
 pub mod sink;
 pub mod source;
 pub mod standard;
+pub mod sure;

@@ -3,15 +3,16 @@ ghost use Rattle.lisp_edge.specs.Answers.{Reads};
 
 use crate::answers::ReadAnswer;
 
-/// What bytes are read from.
+/// Something that bytes are read from.
 pub trait Source {
     /// The bytes that are left to read, where the source tells them.
     ghost left: { Self → Option (List ℕ) };
 
-    /// How many calls have failed. The count stops at the end of its type.
+    /// How many calls have failed. Only a call that fails raises the count, which stops at the end of its type.
     ghost faults: { Self → ℕ };
 
-    /// Reads some bytes into the front of the buffer.
+    /// Reads some bytes into the front of the buffer, finds the end, or fails.
+    /// The count of faults stays as it was unless the call fails.
     fn read(&mut self, buf: &mut [u8]) -> ReadAnswer
         requires { 0 < length buf.old }
         ensures bytes { Reads (left self.old) (left self.new) (faults self.old) (faults self.new) buf.new result }

@@ -7,10 +7,10 @@ use std::io::{ErrorKind, Read, Write};
 use std::marker::Model;
 use std::rt::{Stdin, Stdout};
 
-/// How often a call that was interrupted is made, before that counts as a failure.
+/// How many times a call that is interrupted is made before it counts as a failure.
 const TRIES: u32 = 1_000_000;
 
-/// The standard input. A clause sees the count of its faults alone.
+/// The standard input. A clause sees only the count of its faults.
 #[derive(Drop)]
 pub struct StdSource {
     input: Stdin,
@@ -51,7 +51,7 @@ impl Source for StdSource {
     }
 }
 
-/// The standard output. A clause sees the count of its faults alone.
+/// The standard output. A clause sees only the count of its faults.
 #[derive(Drop)]
 pub struct StdSink {
     output: Stdout,
