@@ -29,11 +29,11 @@ pub thread_wrote : (symbols literals : List (List ℕ)) (begun done : Bool) (non
     → WroteLine now (report_left begun done symbols literals forms next rest globals status) text text'
 thread_wrote symbols literals begun done none forms number next threads rest line globals status now text text' is b n t f m wrote =
     let of_threads : now ≡ report_left begun done symbols literals none number (line ∷ rest) globals status =
-        subst (λ (x : List ThreadLine). now ≡ report_left begun done symbols literals none number x globals status) t (sym is) in
+    subst (λ (x : List ThreadLine). now ≡ report_left begun done symbols literals none number x globals status) t (sym is) in
     let of_forms : now ≡ report_left begun done symbols literals [] number (line ∷ rest) globals status =
-        subst (λ (x : List OpenForm). now ≡ report_left begun done symbols literals x number (line ∷ rest) globals status) n of_threads in
+    subst (λ (x : List OpenForm). now ≡ report_left begun done symbols literals x number (line ∷ rest) globals status) n of_threads in
     let told : now ≡ report_left true done symbols literals [] number (line ∷ rest) globals status =
-        subst (λ (x : Bool). now ≡ report_left x done symbols literals [] number (line ∷ rest) globals status) b of_forms in
+    subst (λ (x : Bool). now ≡ report_left x done symbols literals [] number (line ∷ rest) globals status) b of_forms in
     let some : 0 < length (line_text symbols literals number line) = omega (arith, length-append {A = ℕ}) in
     let counted : next ≡ suc number = m ∙ add-one number in
     subst (λ (x : Bool). WroteLine now (report_left x done symbols literals forms next rest globals status) text text') (sym b)

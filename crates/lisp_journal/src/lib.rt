@@ -7,3 +7,4 @@ pub mod lines;
 pub mod names;
 pub mod refusal;
 pub mod report;
+pub mod run_lines;

@@ -1,6 +1,6 @@
-pub mod Answered
-pub mod Ends
 pub mod Once
-pub mod Read
 pub mod Wholes
-pub mod Wrote
+pub mod Read
+pub mod Sent
+pub mod Answered
+pub mod Promised

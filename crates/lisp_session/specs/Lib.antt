@@ -1,4 +1,5 @@
 pub mod Programs
 pub mod Reading
 pub mod Headline
-pub mod Answer
+pub mod Answers
+pub mod Ends

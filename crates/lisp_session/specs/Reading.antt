@@ -6,11 +6,13 @@ use Rattle.lisp_reader.specs.Reading.{Reads as ReadsData}
 use Rattle.lisp_reader.specs.Tables.{Tables}
 use Rattle.lisp_forms.specs.Program.{Expands}
 use Rattle.plain_program.specs.Plain.{first_unbuilt, plain_forms}
-use Rattle.plain_program.specs.Forms.{PlainForms}
+use Rattle.plain_program.specs.Forms.{PlainForms, forms_of}
+use Rattle.plain_program.specs.Program.{PlainProgram}
 use Rattle.form_shapes.specs.declared.refusal.ExpandRefusal.{ExpandRefusal}
 use Rattle.form_shapes.specs.declared.refusal.ExpandRefusal.TheVariants.{Refused as RefusedData, Memory as NoMemoryForForms}
 use Rattle.lisp_reader.specs.declared.refusal.ReadRefusal.{ReadRefusal}
 use Rattle.lisp_reader.specs.declared.refusal.ReadRefusal.TheVariants.{Refused as RefusedText, Memory as NoMemoryForData}
+use Rattle.lisp_session.specs.declared.program.Reading.{Reading}
 use Rattle.lisp_session.specs.declared.program.Refusal.{Refusal}
 use Rattle.lisp_session.specs.declared.program.Refusal.TheVariants.{Refused, Memory}
 use Rattle.lisp_session.specs.Programs.{IsRefused, first_tables, not_built}
@@ -45,3 +47,7 @@ pub record IsPlain (whole : Program) (forms : PlainForms) : Type 0 where
 abbrev pub IsUnbuilt : Program → Refusal → Type 0
 IsUnbuilt whole (Refused number place) = (first_unbuilt whole.forms ≡ Some place) × (number ≡ not_built)
 IsUnbuilt whole Memory = Unit {0}
+
+-- the program that was read, in the kinds that are run
+abbrev pub program_in : Reading → PlainProgram
+program_in reading = record { forms = forms_of reading.forms.items; specials = reading.program.specials }

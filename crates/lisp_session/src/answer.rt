@@ -1,93 +1,127 @@
-ghost use Rattle.std.specs.Prelude.{◌≡◌, ◌++◌, ℕ, List, IfOk};
-ghost use Rattle.std.specs.Result.{IfErr};
-ghost use Rattle.std.specs.String.{string_bytes};
-ghost use Rattle.lisp_journal.specs.Journal.{journal_text};
-ghost use Rattle.lisp_journal.specs.Report.{report_text};
+ghost use Rattle.std.specs.Prelude.{◌≡◌, ℕ, List, IfOk, true};
 ghost use Rattle.lisp_reader.specs.Tables.{tables_of};
-ghost use Rattle.plain_program.specs.Forms.{forms_of};
-ghost use Rattle.lisp_session.specs.Answer.{Answers};
+ghost use Rattle.plain_program.specs.Program.{PlainProgram};
+ghost use Rattle.run_semantics.specs.Run.{RunsAs};
+ghost use Rattle.lisp_session.specs.Headline.{are_accepted, steps};
+ghost use Rattle.lisp_session.specs.Answers.{Answers, LeftBy, Says, answer_status};
 ghost use Rattle.lisp_session.specs.Programs.{Reads};
-ghost use Rattle.lisp_session.specs.Reading.{IsRefusal};
+ghost use Rattle.lisp_session.specs.Reading.{IsRefusal, program_in};
 
+use crate::laws::{never_both, one_refusal};
 use crate::program::{Reading, Refusal, read};
 use form_evaluator::run::{Finished, run_program};
+use lisp_base::id::Place;
 use lisp_base::memory::Memory;
-use lisp_journal::journal::write_journal;
-use lisp_journal::names::Names;
-use lisp_journal::refusal::write_refusal;
-use lisp_journal::report::write_report;
+use lisp_base::sequence::Sequence;
+use run_semantics::report::Report;
 use std::alloc::Global;
 use symbol_table::symbols::Symbols;
 use symbol_table::texts::Texts;
+use world_semantics::entry::Entry;
 
 /// The points that a thread may take.
 const STEPS: u32 = 100_000;
 
-/// The text that is written for a program.
+/// What a run left: the entries of its journal in ticket order, and its report, with the names and the string literals of
+/// its program.
 #[derive(Drop)]
-pub(crate) enum Answer {
-    /// Journal and report of a run, with its status.
-    OfRun(String, u8),
-    /// The line of a refusal.
-    OfRefusal(String),
+pub struct RunLeft {
+    pub symbols: Symbols,
+    pub texts: Texts,
+    pub entries: Sequence<Entry>,
+    pub report: Report,
 }
 
-/// Journal and report of a run, with these symbols and string literals.
-fn journal_and_report(
-    alloc: Global,
-    symbols: &Symbols,
-    texts: &Texts,
-    finished: &Finished,
-) -> Result<String, Memory>
-    ensures { IfOk result (λ text. string_bytes text ≡ journal_text symbols.now texts.now finished.now.entries ++ report_text symbols.now texts.now finished.now.report) }
-{
-    let names = Names { symbols, texts };
-    let mut text = write_journal(alloc, &names, finished.entries.as_slice())?;
-    let report = write_report(alloc, &names, &finished.report)?;
-    text.push_str(report.as_str())?;
-    Ok(text)
+/// What is answered to the words and the bytes of a call.
+#[derive(Drop)]
+pub enum Answer {
+    /// The bytes are a program, and this is what a run of it left.
+    Ran(RunLeft),
+    /// The bytes are refused with this number at this place, a byte offset.
+    Refused { number: u32, place: Place },
+    /// The words are not accepted.
+    RefusedWords,
 }
 
-/// Runs a program, and writes its journal and report.
-fn run_text(alloc: Global, reading: &Reading) -> Result<Answer, Memory>
-    ensures { IfOk result (λ answer. (bytes : List ℕ) → Reads bytes (tables_of reading.now.symbols reading.now.texts) (record { forms = forms_of reading.now.forms.items; specials = reading.now.program.specials }) → Answers bytes answer) }
+impl Answer {
+    /// The status of a call that writes this answer: 0 where the run ended and every thread has ended, 3 where it ended and
+    /// some thread has not, 4 for bytes that are refused, and 2 for words that are not accepted.
+    pub fn status(&self) -> u8
+        ensures { result ≡ answer_status self.now }
+    {
+        match self {
+            Answer::Ran(run) => run.report.status,
+            Answer::Refused { .. } => 4,
+            Answer::RefusedWords => 2,
+        }
+    }
+}
+
+/// What a run of a program that was read left.
+fn left_by(reading: Reading, finished: Finished) -> RunLeft
+    ensures { (bytes : List ℕ) (program : PlainProgram) → Reads bytes (tables_of reading.symbols reading.texts) program → RunsAs steps program finished.entries finished.report → LeftBy bytes result }
 {
-    let finished = run_program(
+    RunLeft {
+        symbols: reading.symbols,
+        texts: reading.texts,
+        entries: finished.entries,
+        report: finished.report,
+    }
+}
+
+/// Runs a program that was read.
+fn run(alloc: Global, reading: &Reading) -> Result<Finished, Memory>
+    ensures { IfOk result (λ finished. RunsAs steps (program_in reading.now) finished.entries finished.report) }
+{
+    run_program(
         alloc,
         reading.forms.as_slice(),
         reading.program.specials(),
         STEPS,
-    )?;
-    let text = journal_and_report(alloc, &reading.symbols, &reading.texts, &finished)?;
-    Ok(Answer::OfRun(text, finished.report.status))
+    )
 }
 
-/// The line for bytes that are no program.
-fn refusal_text(alloc: Global, refusal: &Refusal) -> Result<Answer, Memory>
-    ensures { IfOk result (λ answer. (bytes : List ℕ) → IsRefusal bytes refusal.now → Answers bytes answer) }
+/// What is answered where a program was read.
+fn answer_reading(alloc: Global, reading: Reading) -> Result<Answer, Memory>
+    ensures { (bytes : List ℕ) → Reads bytes (tables_of reading.symbols reading.texts) (program_in reading) → IfOk result (Says true bytes) }
+{
+    match run(alloc, &reading) {
+        Ok(finished) => Ok(Answer::Ran(left_by(reading, finished))),
+        Err(Memory) => Err(Memory),
+    }
+}
+
+/// What is answered where bytes are refused.
+fn answer_refusal(refusal: Refusal) -> Result<Answer, Memory>
+    ensures { (bytes : List ℕ) → IsRefusal bytes refusal → IfOk result (Says true bytes) }
 {
     match refusal {
-        Refusal::Refused { number, place } => Ok(Answer::OfRefusal(write_refusal(
-            alloc, *number, *place,
-        )?)),
+        Refusal::Refused { number, place } => Ok(Answer::Refused { number, place }),
         Refusal::Memory => Err(Memory),
     }
 }
 
-/// The text to write for what was read of some bytes.
-fn answer_of(alloc: Global, program: &Result<Reading, Refusal>) -> Result<Answer, Memory>
-    ensures { (bytes : List ℕ) → IfOk program.now (λ reading. Reads bytes (tables_of reading.symbols reading.texts) (record { forms = forms_of reading.forms.items; specials = reading.program.specials })) → IfErr program.now (IsRefusal bytes) → IfOk result (Answers bytes) }
+/// What is answered to bytes.
+fn answer_bytes(alloc: Global, bytes: &[u8]) -> Result<Answer, Memory>
+    ensures { IfOk result (Says true bytes.now) }
 {
-    match program {
-        Ok(reading) => run_text(alloc, reading),
-        Err(refusal) => refusal_text(alloc, refusal),
+    match read(alloc, bytes) {
+        Ok(reading) => answer_reading(alloc, reading),
+        Err(refusal) => answer_refusal(refusal),
     }
 }
 
-/// The text to write for these bytes.
-pub(crate) fn answer_to(alloc: Global, bytes: &[u8]) -> Result<Answer, Memory>
-    ensures { IfOk result (Answers bytes.now) }
+/// What is answered to these words and bytes: words that are not accepted are refused, and so are bytes that are no program;
+/// a program is run. The only list of words that is accepted is the empty one.
+pub fn answer_to(alloc: Global, words: &[String], bytes: &[u8]) -> Result<Answer, Memory>
+    ensures { IfOk result (Answers (are_accepted words.now) bytes.now) }
 {
-    let program = read(alloc, bytes);
-    answer_of(alloc, &program)
+    // The laws on which `complete` and `refuses` rest.
+    never_both();
+    one_refusal();
+    if words.is_empty() {
+        answer_bytes(alloc, bytes)
+    } else {
+        Ok(Answer::RefusedWords)
+    }
 }

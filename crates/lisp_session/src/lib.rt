@@ -1,9 +1,9 @@
 //! The top calls: a program from its bytes to its journal and report.
 #![tactic(auto)]
 
-mod answer;
+pub mod answer;
 mod input;
 pub mod laws;
-mod output;
+pub mod output;
 mod program;
 pub mod top;

@@ -5,7 +5,7 @@ ghost use Rattle.lisp_program.specs.Program.{program_of};
 ghost use Rattle.lisp_reader.specs.Tables.{tables_of};
 ghost use Rattle.plain_program.specs.Forms.{forms_of};
 ghost use Rattle.lisp_session.specs.Programs.{Reads};
-ghost use Rattle.lisp_session.specs.Reading.{IsPlain, IsRefusal, IsUnbuilt, IsWhole, of_data, of_text};
+ghost use Rattle.lisp_session.specs.Reading.{IsPlain, IsRefusal, IsUnbuilt, IsWhole, of_data, of_text, program_in};
 ghost use Rattle.lisp_session.specs.declared.program.Refusal.TheVariants.{Memory};
 
 use form_shapes::refusal::ExpandRefusal;
@@ -119,7 +119,7 @@ fn read_into(
 
 /// Reads the program that these bytes are.
 pub(crate) fn read(alloc: Global, bytes: &[u8]) -> Result<Reading, Refusal>
-    ensures read { IfOk result (λ reading. Reads bytes.now (tables_of reading.symbols reading.texts) (record { forms = forms_of reading.forms.items; specials = reading.program.specials })) }
+    ensures read { IfOk result (λ reading. Reads bytes.now (tables_of reading.symbols reading.texts) (program_in reading)) }
     ensures refused { IfErr result (IsRefusal bytes.now) }
 {
     let mut symbols = Symbols::new(alloc)?;
