@@ -1,1 +1,2 @@
+; a symbol that is no variable: refused with its place
 (print (+ 1 two))

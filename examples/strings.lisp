@@ -1,4 +1,4 @@
-; printed with quotes, and written on one line
+; `print` writes a string in quotes, and the journal writes it on one line
 (print "one \"two\"
 three")
 (print 'done)

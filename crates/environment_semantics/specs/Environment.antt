@@ -25,16 +25,16 @@ value_of symbol map store = held_at (place_of symbol map) store
 abbrev pub bound : {V : Type 0} → ℕ → V → List Binding → List V → List Binding × List V
 bound symbol value map store = (record { symbol = symbol; place = length store } ∷ map, store ++ value ∷ [])
 
--- a store after a write to a place
+-- the store after a write to a place, if there is one
 abbrev pub stored : {V : Type 0} → Option ℕ → V → List V → List V
 stored None value store = store
 stored (Some place) value store = slice_set store place value
 
--- `setq` writes the place that the symbol names, and nothing where it names none
+-- `setq` writes to the place that the symbol names, and writes nothing where it names none
 abbrev pub written : {V : Type 0} → ℕ → V → List Binding → List V → List V
 written symbol value map store = stored (place_of symbol map) value store
 
--- the map as it was when it had this many bindings; leaving a binding form puts it back and leaves the store
+-- the map as it was when it had this many bindings; leaving a binding form puts it back, and does not change the store
 abbrev pub outer : ℕ → List Binding → List Binding
 outer height [] = []
 outer height (b ∷ map) = if nat_lt (length map) height then b ∷ map else outer height map

@@ -29,13 +29,13 @@ is_text_first (Listed p under beside) = false
 abbrev pub bound_in_list : Data → Option ℕ
 bound_in_list under = if nat_lt (count_of under) 3 then first_symbol under else None
 
--- a variable in front of others, where there are such
+-- a variable before others, where there are all of these
 abbrev pub and_others : Option ℕ → Option (List ℕ) → Option (List ℕ)
 and_others None others = None
 and_others (Some x) None = None
 and_others (Some x) (Some xs) = Some (x ∷ xs)
 
--- the variables of these bindings, where all have their shape
+-- the variables of these bindings, where all bindings have their shape
 abbrev pub bound_in : Data → Option (List ℕ)
 bound_in NoData = Some []
 bound_in (Atom leaf p beside) = and_others (leaf_symbol leaf) (bound_in beside)
@@ -47,7 +47,7 @@ variables_of NoData = None
 variables_of (Atom leaf p beside) = None
 variables_of (Listed p under beside) = bound_in under
 
--- these, where all are symbols
+-- the symbols that these data are, where all are symbols
 abbrev pub symbols_in : Data → Option (List ℕ)
 symbols_in NoData = Some []
 symbols_in (Atom leaf p beside) = and_others (leaf_symbol leaf) (symbols_in beside)
@@ -59,12 +59,12 @@ parameters_of NoData = None
 parameters_of (Atom leaf p beside) = None
 parameters_of (Listed p under beside) = symbols_in under
 
--- no symbol is there twice
+-- these symbols are all different
 abbrev pub are_different : List ℕ → Bool
 are_different [] = true
 are_different (x ∷ xs) = not (has xs x) && are_different xs
 
--- what these variables may not be: constants, too many, or the same twice
+-- the fault that these variables have: a constant among them, too many, or one that is there twice
 abbrev pub variables_fault : List (List ℕ) → List ℕ → Option ℕ
 variables_fault names xs =
     if not (list_all (is_variable_name names) xs) then Some 12
@@ -72,29 +72,29 @@ variables_fault names xs =
     else if not (are_different xs) then Some 18
     else None
 
--- the same of what may not be a list of variables at all
+-- the fault of what may be a list of variables
 abbrev pub list_fault : List (List ℕ) → Option (List ℕ) → Option ℕ
 list_fault names None = Some 12
 list_fault names (Some xs) = variables_fault names xs
 
--- the list, where there is one
+-- the list, or the empty list where there is none
 abbrev pub or_none : Option (List ℕ) → List ℕ
 or_none xs = unwrap_or xs []
 
--- what is read by behind a variable of a `let`: a special one opens nothing that has a number
+-- the scope after a variable of a `let`: a special one opens nothing that has a number
 abbrev pub opened_by : Scope → ℕ → Scope
 opened_by s x = if has s.specials x then s else inside s (Variable x)
 
--- what is read by behind these variables
+-- the scope after these variables of a `let`
 abbrev pub opened : Scope → List ℕ → Scope
 opened s [] = s
 opened s (x ∷ xs) = opened (opened_by s x) xs
 
--- what is read by behind a parameter: a special one opens a variable that no program can name
+-- the scope after a parameter: a special one opens a variable that no program can name
 abbrev pub received_by : Scope → ℕ → Scope
 received_by s x = if has s.specials x then deeper s else inside s (Variable x)
 
--- what is read by behind these parameters
+-- the scope after these parameters
 abbrev pub received : Scope → List ℕ → Scope
 received s [] = s
 received s (x ∷ xs) = received (received_by s x) xs
@@ -110,16 +110,16 @@ has_special names NoData = false
 has_special names (Atom leaf p beside) = is_named names (codes "SPECIAL") (leaf_symbol leaf) || has_special names beside
 has_special names (Listed p under beside) = has_special names under || has_special names beside
 
--- a list of these is a `declare` that may start a body, where it stands for nothing
+-- a list of these is a `declare` that may begin a body, where it stands for nothing
 abbrev pub is_declaration : List (List ℕ) → Data → Bool
 is_declaration names under = is_named names (codes "DECLARE") (first_symbol under) && not (has_special names under)
 
--- the forms of a body, behind its declarations
+-- the forms of a body, after its declarations
 abbrev pub body_of : List (List ℕ) → Data → Data
 body_of names NoData = NoData
 body_of names (Atom leaf p beside) = Atom leaf p beside
 body_of names (Listed p under beside) = if is_declaration names under then body_of names beside else Listed p under beside
 
--- the forms of a function's body: a string that stands first, with something behind it, stands for nothing
+-- the forms of a function's body: a string that stands first, with something after it, stands for nothing
 abbrev pub function_body_of : List (List ℕ) → Data → Data
 function_body_of names d = if is_text_first d && nat_lt 1 (count_of d) then body_of names (behind 1 d) else body_of names d

@@ -14,7 +14,7 @@ abbrev pub class_of : List (List ℕ) → Option ℕ → Option Class
 class_of names None = None
 class_of names (Some x) = class_named (name_of names x)
 
--- there is one
+-- there is a class
 abbrev pub is_class : Option Class → Bool
 is_class None = false
 is_class (Some class) = true
@@ -32,13 +32,13 @@ is_variable_list names (Atom leaf p (Atom l q beside)) = false
 is_variable_list names (Atom leaf p (Listed q under beside)) = false
 is_variable_list names (Listed p under beside) = false
 
--- the first of these is a list of no variable, or one
+-- the first of these is a list of no variable, or of one
 abbrev pub begins_with_variable : List (List ℕ) → Data → Bool
 begins_with_variable names NoData = false
 begins_with_variable names (Atom leaf p beside) = false
 begins_with_variable names (Listed p under beside) = is_variable_list names under
 
--- a list of these is a clause: a class, a list of no variable or one, and a body
+-- a list of these is a clause: a class, a list of no variable or of one, and a body
 abbrev pub is_clause : List (List ℕ) → Data → Bool
 is_clause names under = is_class (class_of names (first_symbol under)) && begins_with_variable names (behind 1 under)
 
@@ -54,7 +54,7 @@ are_tests NoData = true
 are_tests (Atom leaf p beside) = false
 are_tests (Listed p under beside) = nat_lt 0 (count_of under) && are_tests beside
 
--- the variable of a clause of which these are behind the class, where it has one
+-- the variable of a clause, where it has one, of the data after its class
 abbrev pub clause_variable : Data → Option ℕ
 clause_variable NoData = None
 clause_variable (Atom leaf p beside) = None

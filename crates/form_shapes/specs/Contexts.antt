@@ -7,11 +7,11 @@ use Rattle.form_shapes.specs.declared.scope.Context.{Context}
 use Rattle.form_shapes.specs.declared.scope.Opened.{Opened}
 use Rattle.form_shapes.specs.Scopes.{Scope, with_open}
 
--- what a form is read by, of its context
+-- a context as a scope
 abbrev pub scope_in : Context → Scope
 scope_in c = record { names = c.symbols.now; texts = c.texts.now; specials = c.specials.now; functions = c.functions.now; levels = c.levels.now; depth = c.depth }
 
--- the same, of what all forms are read by and what is open round this one
+-- what all forms are read by, with what is open round one of them, as a scope
 abbrev pub scope_at : Base → List Numbered → ℕ → Scope
 scope_at b levels depth =
     record { names = b.symbols.now; texts = b.texts.now; specials = b.specials.now; functions = b.functions.now; levels = levels; depth = depth }
@@ -20,7 +20,7 @@ scope_at b levels depth =
 abbrev pub with_opened : Scope → Opened → Scope
 with_opened s o = with_open s o.levels o.depth
 
--- the code has told these symbols, where there are any
+-- the code gives these symbols, or none where there are none
 abbrev pub is_told : Option (Vec ℕ Global) → Option (List ℕ) → Type 0
 is_told None told = told ≡ None
 is_told (Some variables) told = told ≡ Some variables.items

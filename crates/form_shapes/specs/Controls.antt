@@ -18,12 +18,12 @@ takes_argument c = (c == 97) || (c == 65) || (c == 115) || (c == 83) || (c == 10
 abbrev pub takes_nothing : ℕ → Bool
 takes_nothing c = (c == 37) || (c == 126)
 
--- one more
+-- one more argument
 abbrev pub one_more : Option ℕ → Option ℕ
 one_more None = None
 one_more (Some n) = Some (suc n)
 
--- How many arguments the rest of a control takes, where all its directives are known; whether a `~` stands right before it.
+-- How many arguments the rest of a control takes, where all its directives are known; `true` where a `~` stands directly before the rest.
 abbrev pub taken_by : Bool → List ℕ → Option ℕ
 taken_by false [] = Some 0
 taken_by true [] = None

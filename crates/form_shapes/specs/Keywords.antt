@@ -15,16 +15,16 @@ use Rattle.form_shapes.specs.Scopes.{first_symbol}
 abbrev pub begins_with : List (List ℕ) → List ℕ → Data → Bool
 begins_with names key d = is_named names key (first_symbol d) && nat_lt 1 (count_of d)
 
--- these behind a keyword and its value, where it is written
+-- the data after a keyword and its value, where these are written; else all
 abbrev pub behind_key : Bool → Data → Data
 behind_key true d = behind 2 d
 behind_key false d = d
 
--- the keywords are written so, where nothing else is
+-- which keywords are written, where no other data are left
 abbrev pub if_all : Data → Bool → Bool → Option Keys
 if_all left first second = if count_of left == 0 then Some (record { first = first; second = second }) else None
 
--- which of two keywords are written, each at most once and in this order, where nothing else is
+-- which of two keywords are written, each at most once and in this order, where there are no other data
 abbrev pub keys_in : List (List ℕ) → List ℕ → List ℕ → Data → Option Keys
 keys_in names first second d =
     let one : Bool = begins_with names first d in
@@ -51,7 +51,7 @@ positional (MakeTimer name thread) = 1
 positional (ScheduleTimer repeat catch_up) = 2
 positional UnscheduleTimer = 1
 
--- the first keyword of a service; where it has none, there is no such name
+-- the first keyword of a service; the empty text, which is no name, where it has none
 abbrev pub first_key : Service → List ℕ
 first_key (MakeThread name arguments) = codes ":NAME"
 first_key (JoinThread default timeout) = codes ":DEFAULT"
@@ -71,7 +71,7 @@ first_key (MakeTimer name thread) = codes ":NAME"
 first_key (ScheduleTimer repeat catch_up) = codes ":REPEAT-INTERVAL"
 first_key UnscheduleTimer = codes ""
 
--- the second keyword of a service
+-- the second keyword of a service; the empty text where it has none
 abbrev pub second_key : Service → List ℕ
 second_key (MakeThread name arguments) = codes ":ARGUMENTS"
 second_key (JoinThread default timeout) = codes ":TIMEOUT"
@@ -111,7 +111,7 @@ with_keys (MakeTimer name thread) a b = MakeTimer a b
 with_keys (ScheduleTimer repeat catch_up) a b = ScheduleTimer a b
 with_keys UnscheduleTimer a b = UnscheduleTimer
 
--- what its arguments are for
+-- what the arguments of a service are for
 abbrev pub roles_of : Service → Roles
 roles_of (MakeThread name arguments) = KeyedFunction
 roles_of (JoinThread default timeout) = Keyed 1
@@ -131,13 +131,13 @@ roles_of (MakeTimer name thread) = KeyedFunction
 roles_of (ScheduleTimer repeat catch_up) = Keyed 2
 roles_of UnscheduleTimer = Keyed 1
 
--- keywords and values take turns, a keyword first
+-- what the argument with this number is for where keywords and values take turns, a keyword first
 abbrev pub pair_role : ℕ → Role
 pair_role zero = Skipped
 pair_role (suc zero) = Value
 pair_role (suc (suc i)) = pair_role i
 
--- a value where this holds, else no form
+-- for a value where this holds, else for no form
 abbrev pub value_if : Bool → Role
 value_if true = Value
 value_if false = Skipped
@@ -151,7 +151,7 @@ role_at KeyedFunction i = if i == 0 then Place else pair_role (i - 1)
 role_at ThenFunction i = if i == 1 then Place else Value
 role_at (Values n) i = if nat_lt i n then Skipped else pair_role (i - n)
 
--- one part more, where an argument has one
+-- one more part, where an argument has one
 abbrev pub counted : Role → ℕ → ℕ
 counted Value n = suc n
 counted Place n = suc n

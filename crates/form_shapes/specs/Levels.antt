@@ -1,4 +1,4 @@
--- What is open round a form.
+-- What is open round a form and can be named.
 use Rattle.std.specs.Prelude.{ℕ, List, [], ◌∷◌, Bool, true, false, ◌==◌, Option, Some, None, if◌then◌else◌}
 use Rattle.form_shapes.specs.declared.levels.Level.{Level}
 use Rattle.form_shapes.specs.declared.levels.Level.TheVariants.{Variable, Block, Region}

@@ -14,37 +14,37 @@ abbrev pub bound_by : First → Option ℕ
 bound_by (LeafFirst leaf p) = leaf_symbol leaf
 bound_by (ListFirst p under) = bound_in_list under
 
--- the symbol that one is
+-- the symbol that a datum is
 abbrev pub symbol_by : First → Option ℕ
 symbol_by (LeafFirst leaf p) = leaf_symbol leaf
 symbol_by (ListFirst p under) = None
 
--- one is a `declare` that may start a body
+-- a datum is a `declare` that may begin a body
 abbrev pub is_declared : List (List ℕ) → First → Bool
 is_declared names (LeafFirst leaf p) = false
 is_declared names (ListFirst p under) = is_declaration names under
 
--- one that is quoted
+-- a datum that is quoted
 abbrev pub quoted_first : First → Expanded
 quoted_first (LeafFirst l p) = constant (node_of l)
 quoted_first (ListFirst p under) = quoted_list (count_of under)
 
--- the symbol that one is, and its place
+-- the symbol that a datum is, and its place
 abbrev pub placed_symbol : First → Option (ℕ × ℕ)
 placed_symbol (LeafFirst l p) = with_place (leaf_symbol l) p
 placed_symbol (ListFirst p under) = None
 
--- one is a list of no variable, or one
+-- a datum is a list of no variable, or of one
 abbrev pub holds_variable : List (List ℕ) → First → Bool
 holds_variable names (LeafFirst l p) = false
 holds_variable names (ListFirst p under) = is_variable_list names under
 
--- one is a clause of `handler-case`
+-- a datum is a clause of `handler-case`
 abbrev pub holds_clause : List (List ℕ) → First → Bool
 holds_clause names (LeafFirst l p) = false
 holds_clause names (ListFirst p under) = is_clause names under
 
--- one is a clause of `cond`
+-- a datum is a clause of `cond`
 abbrev pub holds_test : First → Bool
 holds_test (LeafFirst l p) = false
 holds_test (ListFirst p under) = nat_lt 0 (count_of under)
@@ -53,18 +53,18 @@ holds_test (ListFirst p under) = nat_lt 0 (count_of under)
 abbrev pub let_variables : Data → List ℕ
 let_variables args = or_none (variables_of args)
 
--- what is in the list that is the first of these
+-- the items of the list that is the first of these
 abbrev pub items_first : Data → Data
 items_first NoData = NoData
 items_first (Atom l p beside) = NoData
 items_first (Listed p under beside) = under
 
--- the place of one
+-- the place of a datum
 abbrev pub place_by : First → ℕ
 place_by (LeafFirst l p) = p
 place_by (ListFirst p under) = p
 
--- one is a list
+-- a datum is a list
 abbrev pub is_list : First → Bool
 is_list (LeafFirst l p) = false
 is_list (ListFirst p under) = true

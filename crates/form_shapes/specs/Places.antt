@@ -15,11 +15,11 @@ use Rattle.form_shapes.specs.Bindings.{is_named, list_fault, or_none, parameters
 use Rattle.form_shapes.specs.Scopes.{Scope, first_symbol, has, leaf_symbol, operator_at, with_open}
 use Rattle.form_shapes.specs.Shapes.{shape_of}
 
--- A form that may not stand here is refused with 14, or with a lesser number that it is refused with at the same place.
+-- A form that may not stand here is refused with 14, or with the lesser number with which it would be refused elsewhere.
 abbrev pub misplaced_number : ℕ → ℕ
 misplaced_number number = if nat_lt number 14 then number else 14
 
--- the same of what stands for it by itself
+-- the refusal of a form that may not stand here, by what would stand for it elsewhere
 abbrev pub misplaced_kind : Expanded → Expanded
 misplaced_kind (Form kind) = Refused 14
 misplaced_kind (Lambda parameters) = Refused 14
@@ -27,13 +27,13 @@ misplaced_kind (Defun f parameters) = Refused 14
 misplaced_kind (Refused number) = Refused (misplaced_number number)
 misplaced_kind (RefusedFunction number) = Refused (misplaced_number number)
 
--- the same of a list of this shape, at a place
+-- the refusal of a list of this shape that may not stand here, at a place
 abbrev pub misplaced_shape : ℕ → Shape → Expanded
 misplaced_shape p (shape.Wrong number q) = if q == p then Refused (misplaced_number number) else Refused 14
 misplaced_shape p (shape.Leaf kind) = misplaced_kind kind
 misplaced_shape p _ = Refused 14
 
--- a `lambda` with this fault of its parameters, or none; where only two are the same, it counts as a function
+-- a `lambda` whose parameters have this fault or none; where the fault is only that two are the same, it counts as a function
 abbrev pub lambda_placed : Option ℕ → Placed
 lambda_placed None = Made
 lambda_placed (Some number) = Other (if number == 18 then RefusedFunction 18 else Refused number)
@@ -43,7 +43,7 @@ abbrev pub name_placed : Scope → Option ℕ → Placed
 name_placed s None = Other (Refused 12)
 name_placed s (Some x) = Other (if has s.functions x then Form (FunctionForm (Named x)) else Refused 11)
 
--- `#'` of these: of a name, or of a `lambda`, which stands for itself
+-- `#'` of these data: of a name, or of a `lambda`, which stands for itself
 abbrev pub function_placed : Scope → Data → Placed
 function_placed s NoData = Other (Refused 12)
 function_placed s (Atom leaf q beside) = if count_of beside == 0 then name_placed s (leaf_symbol leaf) else Other (Refused 12)

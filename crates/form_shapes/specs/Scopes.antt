@@ -1,4 +1,4 @@
--- What forms are read by, and what symbols are in it.
+-- What forms are read by, and what symbols are there.
 use Rattle.std.specs.Prelude.{ℕ, suc, List, [], ◌∷◌, Bool, true, false, ◌||◌, ◌==◌, not, Option, Some, None, if◌then◌else◌, slice_get, unwrap_or}
 use Rattle.std.specs.List.{list_any}
 use Rattle.lisp_base.specs.Value.{is_in_range}
@@ -32,15 +32,15 @@ pub record Scope : Type 0 where
   pub levels : List Numbered
   pub depth : ℕ
 
--- with these open
+-- a scope with these open in place of what is open in it
 abbrev pub with_open : Scope → List Numbered → ℕ → Scope
 with_open s levels depth = record s { levels = levels; depth = depth }
 
--- with one more open that no program can name
+-- a scope with one more open that no program can name
 abbrev pub deeper : Scope → Scope
 deeper s = with_open s s.levels (suc s.depth)
 
--- with one more open that can be named
+-- a scope with one more open that can be named
 abbrev pub inside : Scope → Level → Scope
 inside s level = with_open s ((record { level = level; number = s.depth }) ∷ s.levels) (suc s.depth)
 
@@ -75,7 +75,7 @@ first_place (Listed p under beside) = p
 abbrev pub is_variable_name : List (List ℕ) → ℕ → Bool
 is_variable_name names x = not (is_constant (name_of names x) || is_current_thread (name_of names x))
 
--- the symbol, where it may be bound, set or defined
+-- the symbol, where there is one that may be bound, set or defined
 abbrev pub as_variable : List (List ℕ) → Option ℕ → Option ℕ
 as_variable names None = None
 as_variable names (Some x) = if is_variable_name names x then Some x else None
@@ -89,33 +89,33 @@ as_local (Some n) = Some (Local n)
 abbrev pub target_of : Scope → ℕ → Option Target
 target_of s x = if has s.specials x then Some (Special x) else as_local (number_of (Variable x) s.levels)
 
--- the same, where there is a symbol
+-- the variable that a symbol is, where there is a symbol
 abbrev pub target_in : Scope → Option ℕ → Option Target
 target_in s None = None
 target_in s (Some x) = target_of s x
 
--- reading it
+-- the kind of form that reads a variable
 abbrev pub read_kind : Target → CoreKind
 read_kind (Local n) = LocalForm n
 read_kind (Special x) = SpecialForm x
 
--- setting it
+-- the kind of form that sets a variable
 abbrev pub set_kind : Target → CoreKind
 set_kind (Local n) = SetLocal n
 set_kind (Special x) = SetSpecial x
 
--- a leaf by itself, quoted
+-- the node of a leaf that is quoted
 abbrev pub node_of : Leaf → Node
 node_of (Int z) = AnInt z
 node_of (Symbol x) = ASymbol x
 node_of (Text x) = AText x
 node_of (Time t) = ATime t
 
--- a constant; no number of a text is out of range
+-- a constant; it is refused where its number is out of range, which no number of a text is
 abbrev pub constant : Node → Expanded
 constant v = if is_in_range v then Form (ConstantForm v) else Refused 12
 
--- a variable as a form, where there is one
+-- a variable as a form; where there is none the symbol is refused
 abbrev pub variable_form : Option Target → Expanded
 variable_form None = Refused 13
 variable_form (Some target) = Form (read_kind target)
@@ -140,7 +140,7 @@ or_own (Some operator) is_function x = Some operator
 or_own None true x = Some (Own x)
 or_own None false x = None
 
--- what a symbol means in front of a list
+-- what a symbol means at the head of a list
 abbrev pub operator_in : Scope → ℕ → Option Operator
 operator_in s x = or_own (operator_named (name_of s.names x)) (has s.functions x) x
 

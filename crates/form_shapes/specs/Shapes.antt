@@ -34,7 +34,7 @@ use Rattle.form_shapes.specs.Scopes.{Scope, as_variable, constant, first_place, 
 abbrev pub bad : ℕ → Shape
 bad p = shape.Wrong 12 p
 
--- a list that may have its shape: where it does not hold, it is bad
+-- a list that has this shape where the test holds, and otherwise does not have its shape
 abbrev pub where_holds : ℕ → Bool → Shape → Shape
 where_holds p true s = s
 where_holds p false s = bad p
@@ -83,7 +83,7 @@ abbrev pub changed : ℕ → Primitive → Option Target → ℕ → Shape
 changed p f None q = shape.Wrong 13 q
 changed p f (Some target) q = shape.Change target f
 
--- the same of what may be a variable
+-- `incf` or `decf` of what may be a variable, which is at a place
 abbrev pub change_of : Scope → ℕ → Primitive → Option ℕ → ℕ → Shape
 change_of s p f None q = bad p
 change_of s p f (Some x) q = changed p f (target_of s x) q
@@ -116,7 +116,7 @@ quoted_in names (Atom leaf p (Listed q under beside)) = None
 quoted_in names (Atom leaf p (Atom x q beside)) =
     if is_named names (codes "QUOTE") (leaf_symbol leaf) && (count_of beside == 0) then placed (leaf_symbol x) q else None
 
--- the symbol s, and its place, where these are those of `(symbol-value 's)`
+-- the symbol s, and its place, where these are the items of `(symbol-value 's)`
 abbrev pub value_in : List (List ℕ) → Data → Option (ℕ × ℕ)
 value_in names NoData = None
 value_in names (Listed p under beside) = None
@@ -125,7 +125,7 @@ value_in names (Atom leaf p (Atom x q beside)) = None
 value_in names (Atom leaf p (Listed q under beside)) =
     if is_named names (codes "SYMBOL-VALUE") (leaf_symbol leaf) && (count_of beside == 0) then quoted_in names under else None
 
--- the same of the first of these
+-- the symbol s, and its place, where the first of these is `(symbol-value 's)`
 abbrev pub value_first : List (List ℕ) → Data → Option (ℕ × ℕ)
 value_first names NoData = None
 value_first names (Atom leaf p beside) = None
@@ -145,7 +145,7 @@ abbrev pub block_of : ℕ → Option ℕ → Shape
 block_of p None = bad p
 block_of p (Some b) = shape.Block b
 
--- an exit to a block with this number, if there is one
+-- an exit to a block with this number, if there is one, with its value, if it has one, after so many arguments
 abbrev pub exit_of : ℕ → Option ℕ → (has_value : Bool) → ℕ → Shape
 exit_of p None has_value n = shape.Wrong 16 p
 exit_of p (Some b) true n = shape.Over (k.ReturnFrom b) (From n)
@@ -170,7 +170,7 @@ abbrev pub allow_shape : ℕ → Option ℕ → Shape
 allow_shape p None = shape.Wrong 15 p
 allow_shape p (Some n) = shape.Body (k.AllowWithInterrupts n)
 
--- `with-local-interrupts`, of the same
+-- `with-local-interrupts`, where what a written `without-interrupts` round it remembers has this number, if there is one
 abbrev pub local_shape : ℕ → Option ℕ → Shape
 local_shape p None = shape.Wrong 15 p
 local_shape p (Some n) = shape.LocalInterrupts n
@@ -189,7 +189,7 @@ error_shape s p NoData = bad p
 error_shape s p (Listed q under beside) = bad p
 error_shape s p (Atom leaf q beside) = where_holds p (count_of beside == 0) (error_of s p leaf)
 
--- `format` of so many arguments, where its control takes so many
+-- `format` of this control, which takes so many arguments, with so many given
 abbrev pub format_given : ℕ → ℕ → Option ℕ → ℕ → Shape
 format_given p x None given = bad p
 format_given p x (Some taken) given =
@@ -204,7 +204,7 @@ format_of s p (Symbol x) given = bad p
 format_of s p (Time t) given = bad p
 format_of s p (Text x) given = format_given p x (taken_by false (text_of s.texts x)) given
 
--- `format` with these behind its T
+-- `format` with these arguments after its T
 abbrev pub format_behind : Scope → ℕ → Data → Shape
 format_behind s p NoData = bad p
 format_behind s p (Listed q under beside) = bad p
@@ -220,7 +220,7 @@ fold_of_none p f.Add = shape.Leaf (constant (AnInt (pos 0)))
 fold_of_none p f.Multiply = shape.Leaf (constant (AnInt (pos 1)))
 fold_of_none p _ = bad p
 
--- a fold of one argument: that with the number that changes nothing, or for `max` and `min` with itself
+-- a fold of one argument: with the number that changes nothing, or for `max` and `min` with the argument itself
 abbrev pub fold_of_one : Primitive → Shape
 fold_of_one f.Max = shape.Twice f.Max
 fold_of_one f.Min = shape.Twice f.Min
@@ -243,19 +243,19 @@ abbrev pub served : ℕ → Service → Option Keys → Shape
 served p service None = bad p
 served p service (Some keys) = shape.Over (k.Serve (with_keys service keys.first keys.second)) (roles_of service)
 
--- a service whose arguments have keywords behind them
+-- a service with these arguments, of which the first are positional and the others keywords with values
 abbrev pub keyed_shape : List (List ℕ) → ℕ → Service → Data → Shape
 keyed_shape names p service args =
     where_holds p (not (nat_lt (count_of args) (positional service)))
     (served p service (keys_in names (first_key service) (second_key service) (behind (positional service) args)))
 
--- `condition-notify`, with or without how many
+-- `condition-notify`, with or without the number of waiters
 abbrev pub notify_shape : ℕ → Data → Shape
 notify_shape p args =
     if count_of args == 2 then shape.Over (k.Serve (service.ConditionNotify true)) (From 0)
     else fixed p (k.Serve (service.ConditionNotify false)) 1 args
 
--- any service
+-- a service with these arguments
 abbrev pub serve_shape : List (List ℕ) → ℕ → Service → Data → Shape
 serve_shape names p (service.ConditionNotify count) args = notify_shape p args
 serve_shape names p other args = keyed_shape names p other args
@@ -266,7 +266,7 @@ handler_shape names p args =
     where_holds p (nat_lt 0 (count_of args) && are_clauses names (behind 1 args))
     (if nat_lt most_clauses (count_of (behind 1 args)) then shape.Wrong 17 p else shape.Handler)
 
--- what the first of these holds, where it is a list
+-- the items of the first of these, where it is a list
 abbrev pub listed_first : Data → Option Data
 listed_first NoData = None
 listed_first (Atom leaf p beside) = None
@@ -323,7 +323,7 @@ misplaced p (Some number) = if number == 12 then bad p else shape.Wrong 14 p
 abbrev pub lambda_outside : ℕ → List (List ℕ) → Data → Shape
 lambda_outside p names args = misplaced p (list_fault names (parameters_of args))
 
--- `#'` of a list outside a function's place: a `lambda`, which is misplaced where it stands, or nothing that may stand there
+-- `#'` of a list outside a function's place: of a `lambda`, which is misplaced at its own place, or of a list that no `#'` may have
 abbrev pub list_outside : List (List ℕ) → ℕ → ℕ → Data → Shape
 list_outside names p q under =
     where_holds p (is_named names (codes "LAMBDA") (first_symbol under)) (lambda_outside q names (behind 1 under))
@@ -396,7 +396,7 @@ operator_led s p (op.Serve service) args = serve_shape s.names p service args
 operator_led s p (op.Own x) args = call_shape p x args
 operator_led s p other args = control_led s p other args
 
--- the same where there may be no operator
+-- a list with these arguments, with this operator or none
 abbrev pub shape_led : Scope → ℕ → Option Operator → Data → Shape
 shape_led s p None args = shape.Wrong 11 p
 shape_led s p (Some operator) args = operator_led s p operator args

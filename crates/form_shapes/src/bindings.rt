@@ -70,7 +70,7 @@ fn bound_by(first: &First) -> Option<SymbolId>
     }
 }
 
-/// The symbol that one is.
+/// The symbol that a datum is.
 fn symbol_by(first: &First) -> Option<SymbolId>
     ensures { result ≡ symbol_by first.now }
 {
@@ -80,7 +80,7 @@ fn symbol_by(first: &First) -> Option<SymbolId>
     }
 }
 
-/// The variables of these bindings, where all have their shape.
+/// The variables of these bindings, where all bindings have their shape.
 fn bound_in(alloc: Global, bindings: Items) -> Result<Option<Vec<SymbolId>>, Memory>
     ensures { IfOk result (λ variables. is_told variables (Bindings.bound_in bindings.entry)) }
 {
@@ -109,7 +109,7 @@ pub fn variables_of(alloc: Global, arguments: &Items) -> Result<Option<Vec<Symbo
     }
 }
 
-/// These, where all are symbols.
+/// The symbols that these data are, where all are symbols.
 fn symbols_in(alloc: Global, items: Items) -> Result<Option<Vec<SymbolId>>, Memory>
     ensures { IfOk result (λ symbols. is_told symbols (Bindings.symbols_in items.entry)) }
 {
@@ -138,7 +138,7 @@ pub fn parameters_of(alloc: Global, arguments: &Items) -> Result<Option<Vec<Symb
     }
 }
 
-/// The variables of a `let` with these arguments, or none.
+/// The variables of a `let` with these arguments, or no variables where they do not have their shape.
 pub fn variables_in(alloc: Global, arguments: &Items) -> Result<Vec<SymbolId>, Memory>
     ensures { IfOk result (λ variables. variables.items ≡ let_variables arguments.now) }
 {
@@ -148,7 +148,7 @@ pub fn variables_in(alloc: Global, arguments: &Items) -> Result<Vec<SymbolId>, M
     }
 }
 
-/// The parameters with which these begin, or none.
+/// The parameters with which these begin, or no parameters where they do not have their shape.
 pub fn parameters_in(alloc: Global, arguments: &Items) -> Result<Vec<SymbolId>, Memory>
     ensures { IfOk result (λ parameters. parameters.items ≡ parameters_in arguments.now) }
 {
@@ -158,7 +158,7 @@ pub fn parameters_in(alloc: Global, arguments: &Items) -> Result<Vec<SymbolId>, 
     }
 }
 
-/// What is in the list that is the first of these.
+/// The items of the list that is the first of these.
 pub fn items_first<'a>(arguments: &Items<'a>) -> Items<'a>
     ensures is { result ≡ items_first arguments.now }
     ensures small { size_of result ≤ size_of arguments.now }
@@ -172,7 +172,7 @@ pub fn items_first<'a>(arguments: &Items<'a>) -> Items<'a>
     }
 }
 
-/// Whether no symbol is there twice.
+/// Whether these symbols are all different.
 fn are_different(symbols: &[SymbolId]) -> bool
     ensures { result ≡ Bindings.are_different symbols.now }
 {
@@ -193,7 +193,7 @@ fn are_variable_names(symbols: &Symbols, variables: &[SymbolId]) -> bool
         .all(|symbol| is_variable_name(symbols, *symbol))
 }
 
-/// What these variables may not be.
+/// The fault that these variables have: a constant among them, too many, or one that is there twice.
 fn variables_fault(symbols: &Symbols, variables: &[SymbolId]) -> Option<u32>
     ensures { result ≡ Bindings.variables_fault symbols.now variables.now }
 {
@@ -209,7 +209,7 @@ fn variables_fault(symbols: &Symbols, variables: &[SymbolId]) -> Option<u32>
     None
 }
 
-/// The same of what may not be a list of variables at all.
+/// The fault of what may be a list of variables.
 pub fn list_fault(symbols: &Symbols, variables: &Option<Vec<SymbolId>>) -> Option<u32>
     ensures { (told : Option (List ℕ)) → is_told variables.now told → result ≡ Bindings.list_fault symbols.now told }
 {
@@ -233,7 +233,7 @@ pub fn open_variable(
     opened.open(Level::Variable(variable))
 }
 
-/// What is open behind these variables of a `let`.
+/// What is open after these variables of a `let`.
 pub fn opened(alloc: Global, context: &Context, variables: &[SymbolId]) -> Result<Opened, Memory>
     ensures { IfOk result (λ opened. with_opened (scope_in context.now) opened ≡ Bindings.opened (scope_in context.now) variables.now) }
 {
@@ -258,7 +258,7 @@ pub fn open_parameter(
     opened.open(Level::Variable(parameter))
 }
 
-/// What is open behind these parameters, and nothing round them.
+/// What is open after these parameters, where nothing is open round them.
 pub fn received(alloc: Global, context: &Context, parameters: &[SymbolId]) -> Result<Opened, Memory>
     ensures { IfOk result (λ opened. with_opened (scope_in context.now) opened ≡ scope_within (scope_in context.now) parameters.now) }
 {
@@ -287,7 +287,7 @@ fn has_special(symbols: &Symbols, items: Items) -> bool
     false
 }
 
-/// Whether SPECIAL stands somewhere in one.
+/// Whether SPECIAL stands somewhere in a datum.
 #[cycle(special)]
 fn has_special_in(symbols: &Symbols, first: First) -> bool
     ensures { result ≡ Bindings.has_special symbols.now (with_first first.entry NoData) }
@@ -298,14 +298,14 @@ fn has_special_in(symbols: &Symbols, first: First) -> bool
     }
 }
 
-/// Whether a list of these is a `declare` that may start a body.
+/// Whether a list of these is a `declare` that may begin a body.
 fn is_declaration(symbols: &Symbols, under: Items) -> bool
     ensures { result ≡ Bindings.is_declaration symbols.now under.entry }
 {
     is_named(symbols, "DECLARE", first_symbol(&under)) && !has_special(symbols, under)
 }
 
-/// Whether one is a `declare` that may start a body.
+/// Whether a datum is a `declare` that may begin a body.
 fn is_declared(symbols: &Symbols, first: First) -> bool
     ensures { result ≡ is_declared symbols.now first.entry }
 {
@@ -315,7 +315,7 @@ fn is_declared(symbols: &Symbols, first: First) -> bool
     }
 }
 
-/// The forms of a body, behind its declarations.
+/// The forms of a body, after its declarations.
 pub fn body_of<'a>(symbols: &Symbols, items: Items<'a>) -> Items<'a>
     ensures is { result ≡ Bindings.body_of symbols.now items.entry }
     ensures small { size_of result ≤ size_of items.entry }
@@ -330,7 +330,7 @@ pub fn body_of<'a>(symbols: &Symbols, items: Items<'a>) -> Items<'a>
     left
 }
 
-/// The forms of a function's body: a string that stands first, with something behind it, stands for nothing.
+/// The forms of a function's body: a string that stands first, with something after it, stands for nothing.
 pub fn function_body_of<'a>(symbols: &Symbols, items: Items<'a>) -> Items<'a>
     ensures is { result ≡ Bindings.function_body_of symbols.now items.entry }
     ensures small { size_of result ≤ size_of items.entry }

@@ -66,7 +66,7 @@ pub fn call_shape(place: Place, name: SymbolId, arguments: &Items) -> Shape
     Shape::Over(CoreKind::Call(name), Roles::From(0))
 }
 
-/// A service with these arguments, which are its own and then keywords.
+/// A service with these arguments, of which the first are positional and the others keywords with values.
 fn keyed_shape(symbols: &Symbols, place: Place, service: Service, arguments: &Items) -> Shape
     ensures { result ≡ Shapes.keyed_shape symbols.now place service arguments.now }
 {
@@ -85,7 +85,7 @@ fn keyed_shape(symbols: &Symbols, place: Place, service: Service, arguments: &It
     }
 }
 
-/// `condition-notify`, with or without how many.
+/// `condition-notify`, with or without the number of waiters.
 fn notify_shape(place: Place, arguments: &Items) -> Shape
     ensures { result ≡ Shapes.notify_shape place arguments.now }
 {

@@ -19,7 +19,7 @@ pub fn class_of(symbols: &Symbols, symbol: Option<SymbolId>) -> Option<Class>
     class_named(name_of(symbols, symbol?))
 }
 
-/// Whether these are no variable, or one.
+/// Whether these data are no variable, or one.
 fn is_variable_list(symbols: &Symbols, items: &Items) -> bool
     ensures { result ≡ Clauses.is_variable_list symbols.now items.now }
 {
@@ -30,7 +30,7 @@ fn is_variable_list(symbols: &Symbols, items: &Items) -> bool
     }
 }
 
-/// Whether one is a list of no variable, or one.
+/// Whether a datum is a list of no variable, or of one.
 fn holds_variable(symbols: &Symbols, first: &First) -> bool
     ensures { result ≡ holds_variable symbols.now first.now }
 {
@@ -40,7 +40,7 @@ fn holds_variable(symbols: &Symbols, first: &First) -> bool
     }
 }
 
-/// Whether a list of these is a clause: a class, a list of no variable or one, and a body.
+/// Whether a list of these is a clause: a class, a list of no variable or of one, and a body.
 fn is_clause(symbols: &Symbols, under: &Items) -> bool
     ensures { result ≡ Clauses.is_clause symbols.now under.now }
 {
@@ -53,7 +53,7 @@ fn is_clause(symbols: &Symbols, under: &Items) -> bool
     }
 }
 
-/// Whether one is a clause of `handler-case`.
+/// Whether a datum is a clause of `handler-case`.
 fn holds_clause(symbols: &Symbols, first: &First) -> bool
     ensures { result ≡ holds_clause symbols.now first.now }
 {
@@ -77,7 +77,7 @@ pub fn are_clauses(symbols: &Symbols, items: Items) -> bool
     true
 }
 
-/// Whether one is a clause of `cond`: a test, and a body.
+/// Whether a datum is a clause of `cond`: a test, and a body.
 fn holds_test(first: &First) -> bool
     ensures { result ≡ holds_test first.now }
 {
@@ -101,7 +101,7 @@ pub fn are_tests(items: Items) -> bool
     true
 }
 
-/// The variable of a clause of which these are behind the class, where it has one.
+/// The variable of a clause, where it has one, of the data after its class.
 pub fn clause_variable(items: &Items) -> Option<SymbolId>
     ensures { result ≡ Clauses.clause_variable items.now }
 {

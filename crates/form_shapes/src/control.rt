@@ -4,7 +4,7 @@ ghost use Rattle.form_shapes.specs.Controls;
 use lisp_base::id::StringId;
 use symbol_table::texts::Texts;
 
-/// The text of a string literal; none where the table has none.
+/// The text of a string literal; the empty text where the table has no such literal.
 pub fn text_of(texts: &Texts, text: StringId) -> &str
     ensures { result.now ≡ Controls.text_of texts.now text }
 {

@@ -28,7 +28,7 @@ pub fn block_of(place: Place, name: Option<SymbolId>) -> Shape
     }
 }
 
-/// An exit to a block with this number, if there is one; its value may stand behind so many arguments.
+/// An exit to a block with this number, if there is one; its value, if it has one, comes after so many arguments.
 fn exit_of(place: Place, block: Option<u32>, has_value: bool, behind: u32) -> Shape
     ensures { result ≡ Shapes.exit_of place block has_value behind }
 {
@@ -70,7 +70,7 @@ pub fn return_shape(context: &Context, place: Place, arguments: &Items) -> Shape
     exit_of(place, block, count == 1, 0)
 }
 
-/// `allow-with-interrupts`, where what it needs has this number.
+/// `allow-with-interrupts`, where what a written `without-interrupts` round it remembers has this number, if there is one.
 pub fn allow_shape(place: Place, region: Option<u32>) -> Shape
     ensures { result ≡ Shapes.allow_shape place region }
 {
@@ -80,7 +80,7 @@ pub fn allow_shape(place: Place, region: Option<u32>) -> Shape
     }
 }
 
-/// `with-local-interrupts`, in the same way.
+/// `with-local-interrupts`, where what a written `without-interrupts` round it remembers has this number, if there is one.
 pub fn local_shape(place: Place, region: Option<u32>) -> Shape
     ensures { result ≡ Shapes.local_shape place region }
 {

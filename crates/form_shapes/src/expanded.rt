@@ -12,7 +12,7 @@ pub enum Expanded {
     Defun(SymbolId, u32),
     /// What is refused with this number.
     Refused(u32),
-    /// A function that is refused with this number, and counts among the functions all the same.
+    /// A function that is refused with this number, and still counts among the functions.
     RefusedFunction(u32),
 }
 

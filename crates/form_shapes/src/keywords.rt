@@ -18,18 +18,18 @@ pub struct Keys {
 pub enum Role {
     /// A form that gives a value.
     Value,
-    /// It stands in a function's place.
+    /// A function: the argument is a function's place.
     Place,
-    /// It is no form: a name, a keyword, or a string that stands for nothing.
+    /// No form: a name, a keyword, or a string that stands for nothing.
     Skipped,
 }
 
 /// What the arguments of a form are for.
 #[derive(Clone, Copy)]
 pub enum Roles {
-    /// All behind the first so many are values.
+    /// All after the first so many are values.
     From(u32),
-    /// Just the one with this number is a value.
+    /// Only the one with this number is a value.
     Just(u32),
     /// The first so many are values, and then come keywords with values.
     Keyed(u32),
@@ -37,7 +37,7 @@ pub enum Roles {
     KeyedFunction,
     /// The second stands in a function's place.
     ThenFunction,
-    /// Behind the first so many come keywords with values; of these the values.
+    /// After the first so many come keywords with values; only these values are values.
     Values(u32),
 }
 
@@ -48,7 +48,7 @@ fn begins_with(symbols: &Symbols, key: &str, items: &Items) -> bool
     is_named(symbols, key, first_symbol(items)) && items.count() > 1
 }
 
-/// These behind a keyword and its value, where it is written.
+/// The data after a keyword and its value, where these are written; else all.
 fn behind_key<'a>(is_written: bool, items: Items<'a>) -> Items<'a>
     ensures { result ≡ Keywords.behind_key is_written items.entry }
 {
@@ -85,7 +85,7 @@ pub fn positional(service: Service) -> u32
     }
 }
 
-/// The first keyword of a service; where it has none, there is no such name.
+/// The first keyword of a service; the empty text, which is no name, where it has none.
 pub fn first_key(service: Service) -> &'static str
     ensures { result.now ≡ Keywords.first_key service }
 {
@@ -103,7 +103,7 @@ pub fn first_key(service: Service) -> &'static str
     }
 }
 
-/// The second keyword of a service.
+/// The second keyword of a service; the empty text where it has none.
 pub fn second_key(service: Service) -> &'static str
     ensures { result.now ≡ Keywords.second_key service }
 {
@@ -166,7 +166,7 @@ pub fn roles_of(service: Service) -> Roles
     }
 }
 
-/// Keywords and values take turns, a keyword first.
+/// What the argument with this number is for where keywords and values take turns, a keyword first.
 fn pair_role(index: u32) -> Role
     ensures { result ≡ Keywords.pair_role index }
 {
@@ -177,7 +177,7 @@ fn pair_role(index: u32) -> Role
     }
 }
 
-/// A value where this holds, else no form.
+/// For a value where this holds, else for no form.
 fn value_if(is_value: bool) -> Role
     ensures { result ≡ Keywords.value_if is_value }
 {
@@ -202,7 +202,7 @@ pub fn role_at(roles: Roles, index: u32) -> Role
     }
 }
 
-/// One part more, where an argument has one.
+/// One more part, where an argument has one.
 fn counted(role: Role, parts: u32) -> u32
     requires { parts < 2 ^ 30 }
     ensures { result ≡ Keywords.counted role parts }

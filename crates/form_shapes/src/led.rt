@@ -101,7 +101,7 @@ fn aborting() -> Shape
     Shape::Leaf(Expanded::Form(CoreKind::AbortThread))
 }
 
-/// The number of what the innermost written `without-interrupts` remembers.
+/// The number of what the innermost written `without-interrupts` remembers, if there is one.
 fn written_region(context: &Context) -> Option<u32>
     ensures { result ≡ number_of Level.Region context.now.levels.now }
 {

@@ -6,7 +6,7 @@ use lisp_base::memory::Memory;
 use std::alloc::Global;
 use std::marker::Model;
 
-/// What is open round a form in its call, has a number there, and can be named.
+/// Something that is open round a form in its call, has a number there, and can be named.
 #[derive(Clone, Copy)]
 pub enum Level {
     /// A lexical variable.
@@ -17,14 +17,14 @@ pub enum Level {
     Region,
 }
 
-/// The same with its number.
+/// A level with its number.
 #[derive(Clone, Copy)]
 pub struct Numbered {
     pub level: Level,
     pub number: u32,
 }
 
-/// What is open and can be named. Contracts see a list, the innermost first.
+/// All that is open and can be named. Contracts see a list, the innermost first.
 #[derive(Drop)]
 pub struct Levels {
     items: Vec<Numbered>,
@@ -39,7 +39,7 @@ impl Model for Levels {
     ghost view = { λ l. reverse l.items.items };
 }
 
-/// Whether one level is the other.
+/// Whether a level is the one that is sought.
 fn is_level(sought: &Level, level: &Level) -> bool
     ensures { result ≡ is_level_of sought.now level.now }
 {
@@ -69,7 +69,7 @@ impl Levels {
         }
     }
 
-    /// The same.
+    /// A copy of these levels.
     pub fn copied(&self, alloc: Global) -> Result<Levels, Memory>
         ensures { IfOk result (λ same. same ≡ self.now) }
     {
@@ -78,7 +78,7 @@ impl Levels {
         Ok(Levels { items })
     }
 
-    /// One more is open inside.
+    /// Opens one more inside.
     pub fn push(&mut self, level: Level, number: u32) -> Result<(), Memory>
         ensures { OnOk result (self.new ≡ (record { level = level; number = number }) ∷ self.old) }
     {
@@ -99,7 +99,7 @@ impl Levels {
     }
 }
 
-/// The number behind this one. It errs where there is none, which no text reaches.
+/// The number after this one. It errs where its type has none, which no text reaches.
 pub fn next(depth: u32) -> Result<u32, Memory>
     ensures { IfOk result (λ after. after ≡ depth + 1) }
 {

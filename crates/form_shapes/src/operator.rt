@@ -4,7 +4,7 @@ ghost use Rattle.form_shapes.specs.Operators;
 use lisp_base::id::SymbolId;
 use lisp_program::function::{Primitive, Printing, Service};
 
-/// What a name means in front of a list.
+/// What a name means at the head of a list.
 #[derive(Clone, Copy)]
 pub enum Operator {
     Quote,
@@ -53,7 +53,7 @@ pub enum Operator {
     Defun,
     /// An operator of the top level that is NIL there, whatever it holds: `in-package`, `declaim` or `use-package`.
     Ignored,
-    /// A function of two that is folded over any number of arguments.
+    /// A function of two arguments that is folded over any number of them.
     Fold(Primitive),
     /// A function of so many arguments.
     Apply(Primitive, u32),

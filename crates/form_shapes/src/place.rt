@@ -26,7 +26,8 @@ pub enum Placed {
     Other(Expanded),
 }
 
-/// A number with which a form that may not stand here is refused: the lesser of 14 and the number with which it is refused there.
+/// The number with which a form that may not stand here is refused: the lesser of 14 and the number with which it would be refused
+/// elsewhere at this place.
 fn misplaced_number(number: u32) -> u32
     ensures { result ≡ Places.misplaced_number number }
 {
@@ -37,7 +38,7 @@ fn misplaced_number(number: u32) -> u32
     }
 }
 
-/// What stands for a form that may not stand here.
+/// The refusal of a form that may not stand here, by what would stand for it elsewhere.
 pub fn misplaced_kind(kind: Expanded) -> Expanded
     ensures { result ≡ Places.misplaced_kind kind }
 {
@@ -49,7 +50,7 @@ pub fn misplaced_kind(kind: Expanded) -> Expanded
     }
 }
 
-/// The same for a list of this shape.
+/// The refusal of a list of this shape that may not stand here.
 fn misplaced_shape(place: Place, shape: &Shape) -> Expanded
     ensures { result ≡ Places.misplaced_shape place shape.now }
 {
@@ -62,7 +63,7 @@ fn misplaced_shape(place: Place, shape: &Shape) -> Expanded
     }
 }
 
-/// A `lambda` with this fault of its parameters, or none.
+/// A `lambda` whose parameters have this fault or none.
 fn lambda_placed(fault: Option<u32>) -> Placed
     ensures { result ≡ Places.lambda_placed fault }
 {
@@ -87,7 +88,7 @@ fn name_placed(context: &Context, name: Option<SymbolId>) -> Placed
     Placed::Other(Expanded::Refused(UNKNOWN_OPERATOR))
 }
 
-/// `#'` of these.
+/// `#'` of these data: of a name, or of a `lambda`.
 fn function_placed(context: &Context, arguments: &Items) -> Placed
     ensures { result ≡ Places.function_placed (scope_in context.now) arguments.now }
 {

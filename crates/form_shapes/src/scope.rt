@@ -57,7 +57,7 @@ pub struct Context<'a, 'l> {
     pub depth: u32,
 }
 
-/// What a form is read by where this is open round it.
+/// The context of a form: what all forms are read by, with what is open round this one.
 pub fn context_at<'a, 'l>(base: &Base<'a>, levels: &'l Levels, depth: u32) -> Context<'a, 'l>
     ensures { scope_in result ≡ scope_at base.now levels.now depth }
 {
@@ -89,7 +89,7 @@ pub fn opened_in(alloc: Global, context: &Context) -> Result<Opened, Memory>
 }
 
 impl Opened {
-    /// One more is open inside that no program can name.
+    /// Opens one more inside that no program can name.
     pub fn deepen(&mut self) -> Result<(), Memory>
         ensures { OnOk result ((s : Scope) → with_opened s self.new ≡ Scopes.deeper (with_opened s self.old)) }
     {
@@ -97,7 +97,7 @@ impl Opened {
         Ok(())
     }
 
-    /// One more is open inside that can be named.
+    /// Opens one more inside that can be named.
     pub fn open(&mut self, level: Level) -> Result<(), Memory>
         ensures { OnOk result ((s : Scope) → with_opened s self.new ≡ Scopes.inside (with_opened s self.old) level) }
     {
@@ -107,7 +107,7 @@ impl Opened {
     }
 }
 
-/// A context in which this is open besides.
+/// What is open in a context, with one more inside that can be named.
 pub fn opened_with(alloc: Global, context: &Context, level: Level) -> Result<Opened, Memory>
     ensures { IfOk result (λ opened. with_opened (scope_in context.now) opened ≡ Scopes.inside (scope_in context.now) level) }
 {
@@ -123,7 +123,7 @@ pub fn has(symbols: &[SymbolId], symbol: SymbolId) -> bool
     symbols.iter().any(|other| *other == symbol)
 }
 
-/// The name of a symbol; none where the table has none.
+/// The name of a symbol; the empty text where the table has no such symbol.
 pub fn name_of(symbols: &Symbols, symbol: SymbolId) -> &str
     ensures { result.now ≡ Scopes.name_of symbols.now symbol }
 {
@@ -182,7 +182,7 @@ pub fn is_variable_name(symbols: &Symbols, symbol: SymbolId) -> bool
     !(is_constant(name) || is_current_thread(name))
 }
 
-/// The symbol, where it may be bound, set or defined.
+/// The symbol, where there is one that may be bound, set or defined.
 pub fn as_variable(symbols: &Symbols, symbol: Option<SymbolId>) -> Option<SymbolId>
     ensures { result ≡ Scopes.as_variable symbols.now symbol }
 {
@@ -225,7 +225,7 @@ pub fn set_kind(target: &Target) -> CoreKind
     }
 }
 
-/// The node of a leaf by itself.
+/// The node of a leaf that is quoted.
 fn node_of(leaf: Leaf) -> Node
     ensures { result ≡ Scopes.node_of leaf }
 {
@@ -237,7 +237,7 @@ fn node_of(leaf: Leaf) -> Node
     }
 }
 
-/// A constant.
+/// A constant, or a refusal where its number is out of range.
 pub fn constant(node: Node) -> Expanded
     ensures { result ≡ Scopes.constant node }
 {
@@ -281,7 +281,7 @@ pub fn leaf_form(context: &Context, leaf: Leaf) -> Expanded
     }
 }
 
-/// What a symbol means in front of a list.
+/// What a symbol means at the head of a list.
 fn operator_in(context: &Context, symbol: SymbolId) -> Option<Operator>
     ensures { result ≡ Scopes.operator_in (scope_in context.now) symbol }
 {

@@ -13,13 +13,13 @@ use lisp_program::function::Primitive;
 /// What a list is.
 #[derive(Clone, Copy)]
 pub enum Shape {
-    /// It is refused with this number at this place.
+    /// A list that is refused with this number at this place.
     Wrong(u32, Place),
-    /// Nothing stands under it.
+    /// A form or a refusal under which nothing stands.
     Leaf(Expanded),
     /// A form of this kind with its arguments under it, by what they are for.
     Over(CoreKind, Roles),
-    /// The same with NIL behind them.
+    /// A form of this kind with its arguments and then NIL under it.
     OverNil(CoreKind, Roles),
     When,
     Unless,
@@ -31,9 +31,9 @@ pub enum Shape {
     Setq,
     /// `incf` or `decf` of this variable, by this function.
     Change(Target, Primitive),
-    /// A function of two that is folded over the arguments.
+    /// A function of two arguments that is folded over all of them.
     Fold(Primitive),
-    /// A function of two, of one argument twice.
+    /// A function of two arguments that takes its one argument twice.
     Twice(Primitive),
     Let,
     LetStar,
@@ -73,7 +73,7 @@ pub fn bad(place: Place) -> Shape
     Shape::Wrong(BAD_FORM, place)
 }
 
-/// A list that may have its shape: where it does not hold, it is bad.
+/// A list that has this shape where the test holds, and otherwise does not have its shape.
 pub fn where_holds(place: Place, holds: bool, shape: Shape) -> Shape
     ensures { result ≡ Shapes.where_holds place holds shape }
 {

@@ -9,7 +9,7 @@ use crate::scope::{Context, Target, leaf_symbol, target_of};
 use lisp_base::id::{Place, SymbolId};
 use lisp_data::items::{First, Items};
 
-/// Those behind the first so many.
+/// The data after the first so many.
 #[tactic(auto, using(crate::proofs::Sized::size_of_behind))]
 pub fn rest<'a>(items: &Items<'a>, number: u32) -> Items<'a>
     ensures is { result ≡ behind number items.now }
@@ -18,7 +18,7 @@ pub fn rest<'a>(items: &Items<'a>, number: u32) -> Items<'a>
     items.skip(number)
 }
 
-/// Whether one is a list.
+/// Whether a datum is a list.
 pub fn is_list(first: &First) -> bool
     ensures { result ≡ One.is_list first.now }
 {
@@ -28,7 +28,7 @@ pub fn is_list(first: &First) -> bool
     }
 }
 
-/// The place of one.
+/// The place of a datum.
 pub fn place_by(first: &First) -> Place
     ensures { result ≡ One.place_by first.now }
 {
@@ -38,7 +38,7 @@ pub fn place_by(first: &First) -> Place
     }
 }
 
-/// The symbol that one is.
+/// The symbol that a datum is.
 pub fn symbol_by(first: &First) -> Option<SymbolId>
     ensures { result ≡ One.symbol_by first.now }
 {
@@ -48,7 +48,7 @@ pub fn symbol_by(first: &First) -> Option<SymbolId>
     }
 }
 
-/// The variable that one is.
+/// The variable that a datum is.
 pub fn target_by(context: &Context, first: &First) -> Option<Target>
     ensures { result ≡ target_in (scope_in context.now) (One.symbol_by first.now) }
 {

@@ -29,7 +29,7 @@ fn quoted_list(count: u32) -> Expanded
     }
 }
 
-/// One that is quoted.
+/// A datum that is quoted.
 fn quoted_first(first: &First) -> Expanded
     ensures { result ≡ quoted_first first.now }
 {
@@ -140,7 +140,7 @@ pub fn change_shape(
     change_of(context, place, function, variable, first_place(arguments))
 }
 
-/// The symbol that one is, and its place.
+/// The symbol that a datum is, and its place.
 fn placed_symbol(first: &First) -> Option<(SymbolId, Place)>
     ensures { result ≡ placed_symbol first.now }
 {
@@ -161,7 +161,7 @@ fn quoted_in(symbols: &Symbols, under: &Items) -> Option<(SymbolId, Place)>
     placed_symbol(&first)
 }
 
-/// The symbol s, and its place, where these are those of `(symbol-value 's)`.
+/// The symbol s, and its place, where these are the items of `(symbol-value 's)`.
 fn value_in(symbols: &Symbols, under: &Items) -> Option<(SymbolId, Place)>
     ensures { result ≡ Shapes.value_in symbols.now under.now }
 {
@@ -175,7 +175,7 @@ fn value_in(symbols: &Symbols, under: &Items) -> Option<(SymbolId, Place)>
     }
 }
 
-/// The same of the first of these.
+/// The symbol s, and its place, where the first of these is `(symbol-value 's)`.
 fn value_first(symbols: &Symbols, arguments: &Items) -> Option<(SymbolId, Place)>
     ensures { result ≡ Shapes.value_first symbols.now arguments.now }
 {

@@ -22,14 +22,14 @@ use lisp_data::datum::Leaf;
 use lisp_data::items::{First, Items};
 use std::alloc::Global;
 
-/// A leaf as a form, where this is open round it; so are the others here.
+/// A leaf as a form, read by what all forms of the program are read by and by what is open round it, as in all functions below.
 pub fn leaf_within(base: &Base, levels: &Levels, depth: u32, leaf: Leaf) -> Expanded
     ensures { result ≡ leaf_form_of (scope_at base.now levels.now depth) leaf }
 {
     leaf_form(&context_at(base, levels, depth), leaf)
 }
 
-/// What a list of these is.
+/// The shape of a list of these.
 pub fn shape_within(
     alloc: Global,
     base: &Base,
@@ -59,14 +59,14 @@ pub fn placed_within(
     placed_of(alloc, &context_at(base, levels, depth), place, under)
 }
 
-/// The variable that one is.
+/// The variable that a datum is.
 pub fn target_within(base: &Base, levels: &Levels, depth: u32, first: &First) -> Option<Target>
     ensures { result ≡ target_in (scope_at base.now levels.now depth) (symbol_of first.now) }
 {
     target_by(&context_at(base, levels, depth), first)
 }
 
-/// The same.
+/// A copy of what is open.
 pub fn open_within(
     alloc: Global,
     base: &Base,
@@ -78,7 +78,7 @@ pub fn open_within(
     opened_in(alloc, &context_at(base, levels, depth))
 }
 
-/// What is open where this is open besides.
+/// What is open, with one more inside that can be named.
 pub fn level_within(
     alloc: Global,
     base: &Base,
@@ -91,7 +91,7 @@ pub fn level_within(
     opened_with(alloc, &context_at(base, levels, depth), level)
 }
 
-/// What is open behind these variables of a `let`.
+/// What is open after these variables of a `let`.
 pub fn opened_within(
     alloc: Global,
     base: &Base,
@@ -104,7 +104,7 @@ pub fn opened_within(
     opened(alloc, &context_at(base, levels, depth), variables)
 }
 
-/// What is open behind the variable of a clause.
+/// What is open after the variable of a clause.
 pub fn clause_within(
     alloc: Global,
     base: &Base,
@@ -119,7 +119,7 @@ pub fn clause_within(
     Ok(open)
 }
 
-/// What is open behind these parameters of a function, which sees nothing that is open round it.
+/// What is open after these parameters of a function, which sees nothing that is open round it.
 pub fn received_within(
     alloc: Global,
     base: &Base,

@@ -1,4 +1,4 @@
-//! How values stand on the lines of a journal.
+//! How values are written on the lines of a journal.
 use lisp_base::id::{Actor, ThreadId};
 use lisp_base::value::{Node, Value};
 use lisp_journal::journal::write_journal;

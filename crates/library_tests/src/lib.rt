@@ -1,4 +1,4 @@
-//! Tests of public calls of the crates below. They stand apart so that those crates are checked once, and not again with their tests.
+//! Tests of public calls of the crates below. They stand apart from these crates, so that each of them is checked once, and not again with its tests.
 #![tactic(auto)]
 
 #[cfg(test)]

@@ -35,7 +35,7 @@ fn check_both(
     check_way(rt, alloc, (&value, false), plain, tables)
 }
 
-/// Prints a node over the five first symbols and one string.
+/// Prints a node over the first five symbols and one string.
 fn check(
     rt: &impl Abort,
     alloc: Global,
@@ -49,7 +49,7 @@ fn check(
     check_both(rt, alloc, node, (escaped, plain), (&symbols, &texts))
 }
 
-/// Prints a symbol, which both ways is its name.
+/// Prints a symbol, which prints as its name both ways.
 fn check_symbol(rt: &impl Abort, alloc: Global, name: &str) -> Result<(), InternError> {
     let mut symbols = Symbols::new(alloc)?;
     let texts = Texts::new(alloc)?;
@@ -57,7 +57,7 @@ fn check_symbol(rt: &impl Abort, alloc: Global, name: &str) -> Result<(), Intern
     check_both(rt, alloc, node, (name, name), (&symbols, &texts))
 }
 
-/// Prints a string, or a condition with it as its text.
+/// Prints a string, or a condition with this text.
 fn check_text(
     rt: &impl Abort,
     alloc: Global,
@@ -71,7 +71,7 @@ fn check_text(
     check_both(rt, alloc, node, (escaped, characters), (&symbols, &texts))
 }
 
-/// A string, or a condition with it as its text.
+/// A string, or a condition with this text.
 fn node_of(class: Option<Class>, string: StringId) -> Node {
     match class {
         Some(class) => Node::Cond(Condition {

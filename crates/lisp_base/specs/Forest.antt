@@ -1,7 +1,7 @@
 -- Trees beside one another, as they stand in a text.
 use Rattle.std.specs.Prelude.{ℕ, zero, suc}
 
--- none, or a first tree with the trees under it and the trees beside it
+-- no trees, or a first tree with the trees under it and the trees beside it
 pub data Forest (K : Type 0) : Type 0 where
   NoTrees : Forest K
   Tree : (kind : K) (place : ℕ) (under beside : Forest K) → Forest K

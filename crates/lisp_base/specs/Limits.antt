@@ -9,7 +9,7 @@ pub record Numbers : Type 0 where
   pub look : ℕ
   pub workers : ℕ
 
--- a number is at least 1 and at most another
+-- a number is at least 1 and at most `most`
 abbrev pub IsUpTo : ℕ → ℕ → Type 0
 IsUpTo most number = (1 ≤ number) × (number ≤ most)
 
@@ -28,7 +28,7 @@ pub record AreInRange (n : Numbers) : Type 0 where
   pub look : IsLook n.look
   pub workers : AreWorkers n.workers
 
--- the first number out of its range is told, else the numbers are given
+-- an error names the first number that is out of its range; where all are in range, these are the numbers
 abbrev pub Limit : Numbers → Result Numbers LimitsError → Type 0
 Limit n (Ok limits) = (limits ≡ n) × AreInRange n
 Limit n (Err StepsOutOfRange) = ¬ AreSteps n.steps

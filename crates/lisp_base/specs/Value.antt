@@ -1,4 +1,4 @@
--- Which values there are, and which of them are told apart.
+-- Which values there are, and which of them a program can tell apart.
 use Rattle.std.specs.Prelude.{ℕ, ℤ, pos, negsuc, ◌^◌, ◌-◌, ◌+◌, Bool, true, false, ◌&&◌, ◌||◌, int_le, nat_lt}
 use Rattle.lisp_base.specs.declared.value.Node.{Node}
 use Rattle.lisp_base.specs.declared.value.Node.TheVariants.{Int, Text, Time, Cond}
@@ -7,7 +7,7 @@ use Rattle.lisp_base.specs.declared.value.Node.TheVariants.{Int, Text, Time, Con
 abbrev pub is_integer : ℤ → Bool
 is_integer z = int_le (negsuc (2 ^ 62 - 1)) z && int_le z (pos (2 ^ 62 - 1))
 
--- the times go up to 2^62 + 2^52 microseconds, without the last
+-- the times are below 2^62 + 2^52 microseconds
 abbrev pub is_time : ℕ → Bool
 is_time t = nat_lt t (2 ^ 62 + 2 ^ 52)
 
@@ -25,6 +25,6 @@ abbrev pub is_condition : Node → Bool
 is_condition (Cond c) = true
 is_condition _ = false
 
--- no program is told whether two strings are one, nor two conditions
+-- no program can tell whether two strings are the same, nor two conditions
 abbrev pub is_untold : Node → Node → Bool
 is_untold a b = is_text a && is_text b || is_condition a && is_condition b

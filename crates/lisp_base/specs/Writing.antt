@@ -6,7 +6,7 @@ abbrev pub shown : {A : Type 0} → Bool → List A → Option (List A)
 shown true items = None
 shown false items = Some items
 
--- these were written, one step after another: unless memory ran out, in which case nothing is written from then on
+-- these items were written after the old ones, unless memory ran out, in which case nothing is written from then on
 abbrev pub Wrote : {A : Type 0} → (old new : Option (List A)) → List A → Type 0
 Wrote old None items = ⊤
 Wrote None (Some after) items = ⊥

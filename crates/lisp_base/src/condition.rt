@@ -3,7 +3,7 @@ ghost use Rattle.lisp_base.specs.Classes.{above, Covers, IsPartialOrder};
 
 use crate::id::StringId;
 
-/// The classes of conditions. They are a tree: each but the first stands below one other.
+/// The classes of conditions. They are a tree: each but the first is directly below one other.
 #[derive(Clone, Copy, Debug, PartialEq, Eq)]
 pub enum Class {
     Condition,
@@ -30,7 +30,7 @@ pub enum Class {
 }
 
 impl Class {
-    /// The class right above it.
+    /// The class directly above it.
     fn above(self) -> Option<Class>
         ensures { result ≡ above self }
     {
@@ -56,7 +56,7 @@ impl Class {
         }
     }
 
-    /// Whether it is the other class or stands below it.
+    /// Whether it is the other class or is below it.
     fn is_within(self, other: Class) -> bool
         ensures { IsTrue result ↔ Covers other self }
     {
@@ -77,12 +77,12 @@ impl Class {
     }
 }
 
-/// A class covers itself, no two classes cover each other, and what is covered by a covered class is covered. There is nothing to run: the clause is the law.
+/// A class covers itself, no two classes cover each other, and a class covers what is covered by a class that it covers. There is nothing to run: the clause is the law.
 pub fn covers_is_a_partial_order()
     ensures { IsPartialOrder Covers }
 {}
 
-/// A condition, with its text where it was signalled with one.
+/// A condition, with its text where it was signalled with a text.
 #[derive(Clone, Copy, Debug, PartialEq, Eq)]
 pub struct Condition {
     pub class: Class,

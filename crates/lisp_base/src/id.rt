@@ -239,7 +239,7 @@ pub enum From {
     Timer(u32),
 }
 
-/// What names a function: the symbol of its definition, or the place of its `lambda`. The last is the function that ends the thread it interrupts.
+/// What names a function: the symbol of its definition, or the place of its `lambda`. The last is the function that ends the thread that it interrupts.
 #[derive(Clone, Copy, Debug, PartialEq, Eq)]
 pub enum FunctionName {
     Named(SymbolId),

@@ -1,4 +1,4 @@
-//! The words that all crates share: values, names of objects, conditions, actors and limits.
+//! What all crates share: values, names of objects, conditions, actors, limits, lists, and what is written piece by piece.
 #![tactic(auto)]
 
 pub mod condition;

@@ -30,7 +30,7 @@ pub enum LimitsError {
     /// The limit of points is not from 1 to 1,000,000.
     #[error("the limit of points is out of range")]
     StepsOutOfRange,
-    /// The number of enabled points to a look is not from 1 to 256.
+    /// The number of enabled points after which a thread looks is not from 1 to 256.
     #[error("the number of points to a look is out of range")]
     LookOutOfRange,
     /// The number of workers is not from 1 to 64.

@@ -63,7 +63,7 @@ impl<T> Sequence<T> {
         self.items.as_slice()
     }
 
-    /// Puts an item in the place of another, where there is one with this number.
+    /// Puts an item in the place of the item with this number, counted from 0, where there is one.
     pub fn set(&mut self, number: usize, item: T)
     where
         T: Drop,
@@ -74,7 +74,7 @@ impl<T> Sequence<T> {
         }
     }
 
-    /// Puts an item at the end. After want of memory the list is as it was.
+    /// Puts an item at the end. Where memory runs out the list is as it was.
     pub fn push(&mut self, item: T) -> Result<(), Memory>
     where
         T: Drop,

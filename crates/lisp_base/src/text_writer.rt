@@ -7,8 +7,8 @@ use crate::memory::Memory;
 use std::alloc::Global;
 use std::marker::Model;
 
-/// A text that is being written. Where memory runs out nothing more is written, and `finish` errs: so those that write
-/// need not look. Contracts see the bytes that are written, or nothing where memory ran out.
+/// A text that is being written. When memory runs out, nothing more is written, and `finish` errs. So a
+/// function that writes need not check. Contracts see the bytes that are written, or nothing where memory ran out.
 #[derive(Drop)]
 pub struct TextWriter {
     text: String,
@@ -64,7 +64,7 @@ impl TextWriter {
         }
     }
 
-    /// Writes a number in decimal digits, behind a `-` where it is below zero.
+    /// Writes a number in decimal digits, with a `-` before them where it is below zero.
     pub fn push_number(&mut self, alloc: Global, number: i64)
         ensures { Wrote self.old self.new (signed_decimal number) }
     {

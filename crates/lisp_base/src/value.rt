@@ -43,10 +43,10 @@ impl Model for Value {
     ghost inverse = { λ n. record { node = n } };
 }
 
-/// The greatest integer; the least is one further below zero.
+/// The greatest integer. The least is -GREATEST - 1.
 const GREATEST: i64 = (1 << 62) - 1;
 
-/// Times are below this number of microseconds: the greatest reading of a clock, and the longest wait after it.
+/// Times are below this number of microseconds, which is the greatest reading of a clock and the longest wait after it.
 const TIMES: u64 = (1 << 62) + (1 << 52);
 
 impl Value {
@@ -98,7 +98,7 @@ impl Value {
         }
     }
 
-    /// Whether two values are the same: `None` exactly where both are strings or both are conditions, of which no program is told.
+    /// Whether two values are the same: `None` exactly where both are strings or both are conditions, since no program can tell whether these are the same.
     pub fn eq(&self, other: &Value) -> Option<bool>
         ensures untold { IsNone result ↔ IsTrue (is_untold self.now other.now) }
         ensures told { IfSome result (λ same. IsTrue same ↔ (self.now ≡ other.now)) }

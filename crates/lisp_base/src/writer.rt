@@ -5,8 +5,8 @@ use crate::memory::Memory;
 use std::alloc::Global;
 use std::marker::Model;
 
-/// A list that is being written. Where memory runs out nothing more is written, and `finish` errs: so those that write
-/// need not look. Contracts see what is written, or nothing where memory ran out.
+/// A list that is being written. When memory runs out, nothing more is written, and `finish` errs. So a
+/// function that writes need not check. Contracts see what is written, or nothing where memory ran out.
 #[derive(Drop)]
 pub struct Writer<T> {
     items: Vec<T>,

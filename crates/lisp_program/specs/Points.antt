@@ -23,28 +23,28 @@ abbrev pub nil : Node
 nil = Symbol 0
 
 -- What a thread has still to do in a stretch: nothing more, or one point and what comes after it. A point has the place
--- of the form that it belongs to. Where a stretch in a frame is done, one point more leaves the frame.
+-- of the form that it belongs to. Where a stretch in a frame is done, one more point leaves the frame.
 pub data Points : Type 0 where
   Done : Points
   -- a local point
   Do : (act : Act) (place : ℕ) (after : Points) → Points
-  -- an operation, or a local point where the thread can answer for itself
+  -- an operation, or a local point where the thread alone has what is asked for
   Ask : (question : Question) (place : ℕ) (after : Points) → Points
-  -- asks; where the answer does not settle what is wanted, more comes next
+  -- a question; where the reply does not settle the matter, more points come next
   Test : (question : Question) (place : ℕ) (more after : Points) → Points
-  -- takes a value; where it is not NIL the first comes next, else the second
+  -- takes a value; where it is not NIL the first points come next, else the second
   Choose : (place : ℕ) (first second after : Points) → Points
-  -- a test, and 1 point that takes its value: where it is NIL it gives NIL and the loop is done, else the body comes next, 1
-  -- point that forgets its value, and the test again
+  -- a test, and 1 point that takes its value: where the value is NIL this gives NIL and the loop is done, else the body comes
+  -- next, then 1 point that forgets its value, and the test again
   Loop : (place : ℕ) (test body after : Points) → Points
   -- opens a frame, in which the body is done
   Enter : (opening : Opening) (place : ℕ) (body after : Points) → Points
-  -- opens a Protect frame, in which the body is done; 1 point turns it into a Cleanup frame, in which the cleanup is done
+  -- opens a Protect frame, in which the body is done; 1 point turns the frame into a Cleanup frame, in which the cleanup is done
   Protect : (place : ℕ) (body cleanup after : Points) → Points
   -- opens a Handler frame, in which the body is done; a clause is done outside it
   Handle : (place : ℕ) (body clauses after : Points) → Points
-  -- a clause of a Handler frame: what is done for a condition of this class, whether it is given the condition, and the other
-  -- clauses
+  -- a clause of a Handler frame: what is done for a condition of this class, whether the clause is given the condition, and
+  -- the other clauses
   When : (class : Class) (is_given : Bool) (chosen others : Points) → Points
 
 -- these points, and then those
@@ -72,7 +72,7 @@ body_of p [] = Do (Push nil) p Done
 body_of p (f ∷ []) = f
 body_of p (f ∷ (g ∷ fs)) = joined f (Do Discard p (body_of p (g ∷ fs)))
 
--- the first of these, and the others; there is one in every form that has these as its parts
+-- the first of these points; every form for which this is used has one
 abbrev pub first_of : List Points → Points
 first_of [] = Done
 first_of (f ∷ fs) = f
@@ -102,7 +102,7 @@ one s p step = Ask (AskService s step) p Done
 abbrev pub timed : Service → ℕ → Points
 timed s p = Ask (AskService s Clock) p (one s p Main)
 
--- a try; where that does not settle it, the clock's reading and the operation
+-- a try; where that does not settle the matter, the clock's reading and the operation
 abbrev pub tried : Service → ℕ → Points
 tried s p = Test (AskService s Try) p (timed s p) Done
 
@@ -111,7 +111,7 @@ abbrev pub tried_or_not : Service → ℕ → (timeout : Bool) → Points
 tried_or_not s p true = tried s p
 tried_or_not s p false = one s p Main
 
--- the operations of `condition-wait`: it waits to be notified, and then for the mutex
+-- the operations of `condition-wait`: it waits to be notified, and then waits for the mutex
 abbrev pub wait_of : Service → ℕ → Points
 wait_of s p = Ask (AskService s Begin) p (Test (AskService s Wake) p (one s p Regrab) Done)
 
@@ -152,7 +152,7 @@ table (Special s) p fs = Ask (Read s) p Done
 -- `setq`: its value, and 1 point
 table (SetLocal x) p fs = joined (all_of fs) (Do (WriteLocal x) p Done)
 table (SetSpecial s) p fs = joined (all_of fs) (Ask (Write s) p Done)
--- `defvar`: the operation `boundp`; where that says NIL its value, and the operation `set`
+-- `defvar`: the operation `boundp`; where the reply is NIL, its value and the operation `set`
 table (Defvar s) p fs = Test (IsBound s) p (joined (all_of fs) (Ask (Define s) p Done)) Done
 -- `defparameter`: its value, and the operation `set`
 table (Defparameter s) p fs = joined (all_of fs) (Ask (Define s) p Done)

@@ -1,4 +1,4 @@
--- Whole programs, and the same written flat.
+-- Whole programs, and how they are written flat.
 use Rattle.std.specs.Prelude.{◌≡◌, ℕ, List, map}
 use Rattle.lisp_base.specs.declared.id.FunctionName.{FunctionName}
 use Rattle.lisp_program.specs.declared.form.FormNode.{FormNode}
@@ -30,14 +30,14 @@ pub record FlatProgram : Type 0 where
   pub functions : List FlatFunction
   pub specials : List ℕ
 
--- the function that is written so
+-- the function that is written flat so
 abbrev pub function_of : FlatFunction → Function
 function_of f = record { name = f.name; place = f.place; params = f.params; body = forms_of f.body }
 
--- the program that is written so
+-- the program that is written flat so
 abbrev pub program_of : FlatProgram → Program
 program_of p = record { forms = forms_of p.main; functions = map function_of p.functions; specials = p.specials }
 
--- these nodes are those of whole forms
+-- these nodes are the nodes of whole forms
 abbrev pub AreWhole : List FormNode → Type 0
 AreWhole nodes = preorder (forms_of nodes) ≡ nodes

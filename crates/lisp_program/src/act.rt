@@ -3,24 +3,24 @@ use lisp_base::condition::Condition;
 use lisp_base::id::{FunctionName, SymbolId};
 use lisp_base::value::Value;
 
-/// A local point that opens no frame. Operands are the values at hand, the last one in front.
+/// A local point that opens no frame. Operands are the values at hand, the newest first.
 #[derive(Clone, Copy, Debug, PartialEq, Eq)]
 pub enum Act {
     /// Gives a constant.
     Push(Value),
-    /// Gives a function, to the form in whose function's place it stands.
+    /// Gives a function to the form in whose function's place it stands.
     PushFunction(FunctionName),
     /// Gives the present thread.
     PushThread,
     /// Gives the lexical variable with this number.
     ReadLocal(u32),
-    /// Writes the front operand to the lexical variable with this number, and leaves it.
+    /// Writes the first operand to the lexical variable with this number, and keeps it as an operand.
     WriteLocal(u32),
-    /// Binds the lexical variable with this number to the operand that has so many others in front, which it takes away.
+    /// Binds the lexical variable with this number to the operand that has so many others before it, which it takes away.
     BindLocal(u32, u32),
     /// Forgets the lexical variable that was bound last.
     ForgetLocal,
-    /// Takes the front operand away.
+    /// Takes the first operand away.
     Discard,
     /// Takes the operands of a function, and gives its value.
     Apply(Primitive),
@@ -41,7 +41,7 @@ pub enum Act {
 /// A point that opens a frame. All but a binding give their body no operand.
 #[derive(Clone, Copy, Debug, PartialEq, Eq)]
 pub enum Opening {
-    /// Binds a special variable to the operand that has so many others in front, which it takes away.
+    /// Binds a special variable to the operand that has so many others before it, which it takes away.
     Bind(SymbolId, u32),
     /// A block, whose entry has this number.
     Block(u32),
@@ -49,7 +49,7 @@ pub enum Opening {
     Catch,
     /// Remembers whether interruptions were allowed, under this number, and allows none.
     WithoutInterrupts(u32),
-    /// Allows interruptions where they were allowed as remembered under this number.
+    /// Allows interruptions where what is remembered under this number says that they were allowed.
     AllowWithInterrupts(u32),
     /// Enables interruptions where they are allowed.
     WithInterrupts,
@@ -60,17 +60,17 @@ pub enum Opening {
 /// A point that is an operation on shared objects, or may be one.
 #[derive(Clone, Copy, Debug, PartialEq, Eq)]
 pub enum Question {
-    /// Takes what it prints, and gives what the function gives.
+    /// Prints: takes the arguments of the function, and gives its value.
     Print(Printing),
-    /// Reads a special variable: its binding in this thread, else the global value.
+    /// Reads a special variable: its binding in this thread, or else the global value.
     Read(SymbolId),
-    /// Writes the front operand to a special variable, in its binding in this thread, else globally, and leaves it.
+    /// Writes the first operand to a special variable, to its binding in this thread or else globally, and keeps it as an operand.
     Write(SymbolId),
     /// Whether a special variable has a global value.
     IsBound(SymbolId),
-    /// Takes a value, writes it to a special variable globally, and gives its symbol.
+    /// Takes a value, writes it to a special variable globally, and gives the symbol.
     Define(SymbolId),
-    /// Takes two values, writes the second where the variable is `eq` to the first, and gives what the variable was.
+    /// Takes two values, writes the second where the variable is `eq` to the first, and gives what the variable held.
     CompareAndSwap(SymbolId),
     /// The first point of a service takes its operands, and its last gives its value.
     Serve(Service, Step),
@@ -78,20 +78,20 @@ pub enum Question {
     EndThread,
 }
 
-/// One of the operations that a service is made of. A timeout of NIL is as if it were not written: `Clock` is no point then,
-/// and `Try` is as `Main` and settles what is wanted.
+/// One of the operations that a service is made of. A timeout of NIL counts as not written: `Clock` is no point then, and
+/// `Try` does what `Main` does and settles the matter.
 #[derive(Clone, Copy, Debug, PartialEq, Eq)]
 pub enum Step {
     /// The clock's reading, from which a time counts.
     Clock,
     /// The operation for which the service is named. That of a `grab-mutex` whose `:waitp` is NIL is a try.
     Main,
-    /// `try` or `poll`, which does not wait. It settles what is wanted where the mutex was free or the thread has ended, and where
+    /// `try` or `poll`, which does not wait. It settles the matter where the mutex was free or the thread has ended, and where
     /// `:waitp` is NIL.
     Try,
     /// `wait-begin`: waits in a waitqueue, with the mutex free.
     Begin,
-    /// `wake`: waits to be notified. A timeout settles what is wanted.
+    /// `wake`: waits to be notified. A timeout settles the matter.
     Wake,
     /// `regrab`: waits for the mutex.
     Regrab,

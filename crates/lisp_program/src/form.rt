@@ -13,7 +13,7 @@ pub enum CoreKind {
     Constant(Value),
     /// The present thread.
     CurrentThread,
-    /// A function in a function's place: one of the program, one made by `lambda`, or that of `terminate-thread`.
+    /// A function in a function's place: a function of the program, one made by `lambda`, or that of `terminate-thread`.
     Function(FunctionName),
     /// A lexical variable.
     Local(u32),
@@ -38,14 +38,15 @@ pub enum CoreKind {
     While,
     /// `let`: the values of its variables stand under it, and then one `BindLocal` or `BindSpecial`.
     Let,
-    /// A lexical variable of a `let`, with its number, which takes the value that has so many others in front. Under it stands
+    /// A lexical variable of a `let`, with its number, which takes the value that has so many others before it. Under it stands
     /// the next variable, or the body.
     BindLocal(u32, u32),
-    /// A special variable of a `let`, in the same way.
+    /// A special variable of a `let`, which takes the value that has so many others before it. Under it stands the next variable,
+    /// or the body.
     BindSpecial(SymbolId, u32),
     /// A call of a function of the program; its arguments stand under it.
     Call(SymbolId),
-    /// A function with local points; its arguments stand under it, as in the next two.
+    /// A function with local points; its arguments stand under it, as they do in the next two kinds.
     Apply(Primitive),
     Print(Printing),
     Serve(Service),
@@ -59,9 +60,9 @@ pub enum CoreKind {
     Throw,
     /// The protected form stands under it, and then the cleanup forms.
     UnwindProtect,
-    /// With the number of what it remembers. Its body stands under it.
+    /// `without-interrupts`, with the number of what it remembers. Its body stands under it.
     WithoutInterrupts(u32),
-    /// With the number of what its `without-interrupts` remembers. Its body stands under it.
+    /// `allow-with-interrupts`, with the number of what its `without-interrupts` remembers. Its body stands under it.
     AllowWithInterrupts(u32),
     /// Its body stands under it.
     WithInterrupts,
@@ -164,7 +165,7 @@ impl Model for Program {
 }
 
 impl Program {
-    /// The program with these. It takes no memory.
+    /// The program with these forms, functions and special variables. It takes no memory.
     pub fn of(main: Vec<FormNode>, functions: Vec<FunctionForm>, specials: Vec<SymbolId>) -> Self
         ensures { result ≡ record { main = main.items; functions = functions.items; specials = specials.items } }
     {

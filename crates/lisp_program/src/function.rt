@@ -3,41 +3,41 @@ use lisp_base::id::StringId;
 /// A function whose work is one local point. Each says how many arguments it has.
 #[derive(Clone, Copy, Debug, PartialEq, Eq)]
 pub enum Primitive {
-    /// `+` of two; so are the next four.
+    /// `+` of two arguments; the next four take two as well.
     Add,
     Subtract,
     Multiply,
     Max,
     Min,
-    /// `1+` of one; so are the next two.
+    /// `1+` of one argument; the next two take one as well.
     Increment,
     Decrement,
     Abs,
-    /// `floor` of two; so are the next three.
+    /// `floor` of two arguments; the next three take two as well.
     Floor,
     Truncate,
     Mod,
     Rem,
-    /// `=` of two; so are the next five.
+    /// `=` of two arguments; the next five take two as well.
     Equals,
     Differs,
     Less,
     Greater,
     AtMost,
     AtLeast,
-    /// `zerop` of one.
+    /// `zerop` of one argument.
     Zerop,
-    /// `eq` of two; so are the next two.
+    /// `eq` of two arguments; the next two take two as well.
     Eq,
     Eql,
     Equal,
-    /// `not` of one; so are the next four.
+    /// `not` of one argument; the next four take one as well.
     Not,
     Null,
     Symbolp,
     Integerp,
     Stringp,
-    /// `main-thread` of none; so is the next.
+    /// `main-thread`, which takes no arguments; the next takes none either.
     MainThread,
     ThreadYield,
 }
@@ -51,13 +51,13 @@ pub enum Printing {
     Prin1,
     /// `princ`: the plain text of the argument.
     Princ,
-    /// `terpri`: a newline. It has no argument.
+    /// `terpri`: a newline. It takes no arguments.
     Terpri,
-    /// `format t` with this control and so many arguments.
+    /// `format t` with this control text and so many arguments.
     Format(StringId, u32),
 }
 
-/// A function of threads, mutexes, waitqueues, time or timers. The arguments that must be there come first, then those
+/// A function of threads, mutexes, waitqueues, time or timers. The arguments that it must have come first, then those
 /// of the keywords that are written, in this order.
 #[derive(Clone, Copy, Debug, PartialEq, Eq)]
 pub enum Service {
@@ -81,7 +81,7 @@ pub enum Service {
     MakeWaitqueue {
         name: bool,
     },
-    /// Of a mutex; so are the next three.
+    /// Of a mutex; the next three are of a mutex as well.
     GrabMutex {
         waitp: bool,
         timeout: bool,

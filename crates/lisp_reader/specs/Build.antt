@@ -13,15 +13,15 @@ use Rattle.lisp_reader.specs.Stack.{top_of, below}
 abbrev pub nothing_built : Builder
 nothing_built = record { items = 0; outer = []; nodes = [] }
 
--- one datum more in front of the innermost list
+-- one more datum at the beginning of the innermost list
 abbrev pub with_item : DatumKind → ℕ → Builder → Builder
 with_item k p b = record b { items = b.items + 1; nodes = node_at k p ∷ b.nodes }
 
--- the end of a list
+-- the end of a list, of which no item is seen yet
 abbrev pub closed : Builder → Builder
 closed b = record b { items = 0; outer = b.items ∷ b.outer }
 
--- a number, or none where there is nothing
+-- a number, or 0 where there is none
 abbrev pub or_none : Option ℕ → ℕ
 or_none None = 0
 or_none (Some n) = n
@@ -30,11 +30,11 @@ or_none (Some n) = n
 abbrev pub opened : ℕ → Builder → Builder
 opened p b = with_item (AList b.items) p (record b { items = or_none (top_of b.outer); outer = below b.outer })
 
--- a quote makes a list of two of the first datum, with its symbol in front
+-- a quote makes a list of two items: its symbol, and the datum after it
 abbrev pub quoted : ℕ → ℕ → Builder → Builder
 quoted id p b = record b { nodes = node_at (AList 2) p ∷ (node_at (ASymbol id) p ∷ b.nodes) }
 
--- one mark of this kind at this place, in front of the others
+-- one mark of this kind at this place, before the others
 abbrev pub moved : MarkKind → ℕ → Builder → Builder
 moved Open p b = opened p b
 moved Close p b = closed b

@@ -18,7 +18,7 @@ pub record Fault : Type 0 where
   pub number : ℕ
   pub place : ℕ
 
--- what reading comes to: a fault or none, and the tables then
+-- what reading comes to: a fault or none, and the tables at its end
 pub record Gathered : Type 0 where
   pub fault : Option Fault
   pub tables : Tables
@@ -32,7 +32,7 @@ with_symbol name t = record t { symbols = grown t.symbols name }
 abbrev pub with_literal : List ℕ → Tables → Tables
 with_literal characters t = record t { literals = grown t.literals characters }
 
--- what is open once a datum has ended: it ends all quotes that wait for it
+-- what is open after a datum has ended: it ends all quotes that wait for it
 abbrev pub settled : List Opening → List Opening
 settled [] = []
 settled (AList p ∷ os) = AList p ∷ os
@@ -43,7 +43,7 @@ abbrev pub quote_name : (function : Bool) → List ℕ
 quote_name true = codes "FUNCTION"
 quote_name false = codes "QUOTE"
 
--- what is open behind a parenthesis that closes, where the innermost that is open is a list
+-- what is open after a closing parenthesis, where the innermost that is open is a list
 abbrev pub closed_by : List Opening → Option (List Opening)
 closed_by [] = None
 closed_by (AList p ∷ os) = Some os
@@ -67,7 +67,7 @@ token_fault Keyword = None
 token_fault TooLarge = Some 5
 token_fault Bad = Some 4
 
--- what is gathered of one part: the fault that it has, and what is open and in the tables behind it
+-- what is gathered of one part: the fault that it has, and what is open and in the tables after it
 pub record Taken : Type 0 where
   pub fault : Option ℕ
   pub opens : List Opening
@@ -97,7 +97,7 @@ abbrev pub token_ends : List ℕ → Meaning → Option ℕ → List Opening →
 token_ends letters m (Some number) os t = no_more number os t
 token_ends letters m None os t = symbol_ends (symbol_in letters m) os t
 
--- one part more. Nesting too deep comes before a table that is full.
+-- One more part. Nesting too deep comes before a table that is full.
 abbrev pub taken : List Opening → Tables → Part → Taken
 taken os t (Opens p) = opening (AList p) os t
 taken os t (Closes q) = closing (closed_by os) os t
@@ -118,12 +118,12 @@ place_in (Literal p characters) = p
 place_in (OpenLiteral p) = p
 place_in (Token' p letters) = p
 
--- the end comes inside what is open innermost
+-- the text ends inside the innermost that is open, if anything is open
 abbrev pub at_end : List Opening → Tables → Gathered
 at_end [] t = record { fault = None; tables = t }
 at_end (o ∷ os) t = faulty 2 (place_of o) t
 
--- a part ends it where it has a fault, else what comes after it counts
+-- reading ends with a part that has a fault; else what comes after the part counts
 abbrev pub unless_fault : Option ℕ → ℕ → Tables → Gathered → Gathered
 unless_fault None place t later = later
 unless_fault (Some number) place t later = faulty number place t
@@ -153,7 +153,7 @@ abbrev pub with_parts : Tables → List Part → Tables
 with_parts t [] = t
 with_parts t (part ∷ ps) = with_parts (with_part t part) ps
 
--- the tables have got what a front of these parts uses
+-- the tables have what the first parts use, up to some part
 pub record HoldsFront (ps : List Part) (before after : Tables) : Type 0 where
   pub used : List Part
   pub others : List Part

@@ -40,13 +40,13 @@ abbrev mutual
   spelled_item (ListItem p q under) = Opens p ∷ (spelled under ++ Closes q ∷ [])
   spelled_item (QuoteItem function p quoted) = Quotes function p ∷ spelled_item quoted
 
-  -- those of items, one after the other
+  -- the parts of items, one after the other
   pub spelled : Items → List Part
   spelled NoItems = []
   spelled (ItemAnd first others) = spelled_item first ++ spelled others
 
 abbrev mutual
-  -- an item as a datum, in front of others, where these are the tables: `'x` is the list `(QUOTE x)`, and `#'x` the list `(FUNCTION x)`
+  -- an item as a datum, before others, where these are the tables: `'x` is the list `(QUOTE x)`, and `#'x` the list `(FUNCTION x)`
   pub datum_in : Tables → Item → Data → Data
   datum_in t (TokenItem p letters) beside = Atom (leaf_of t.symbols letters (meaning_in letters)) p beside
   datum_in t (LiteralItem p characters) beside = Atom (TextLeaf (number_in t.literals characters)) p beside

@@ -1,4 +1,4 @@
--- Parts as marks: the same, with symbols, literals and numbers known.
+-- Parts as marks: parts in which all symbols, literals and numbers are known.
 use Rattle.std.specs.Prelude.{◌≡◌, ◌⊎◌, ℕ, pos, true, false, List, [], ◌∷◌, ◌++◌, Option, Some, None}
 use Rattle.lisp_data.specs.declared.datum.Leaf.{Leaf}
 use Rattle.lisp_data.specs.declared.datum.Leaf.TheVariants.{Int, Text as TextLeaf}
@@ -26,15 +26,15 @@ kind_in t (Token' p letters) = ALeaf (leaf_of t.symbols letters (meaning_in lett
 abbrev pub mark_of : Tables → Part → Mark
 mark_of t part = record { kind = kind_in t part; place = place_in part }
 
--- a part is taken: what is open, the tables and the marks behind it
+-- a part is taken: what is open, the tables and the marks after it
 pub record TookPart (part : Part) (os os' : List Opening) (t t' : Tables) (before after : List Mark) : Type 0 where
   pub fine : (taken os t part).fault ≡ None
   pub opens : os' ≡ (taken os t part).opens
   pub tables : t' ≡ (taken os t part).tables
   pub marks : after ≡ before ++ mark_of t' part ∷ []
 
--- A part is refused: with the number of its fault at its place, and the tables are those behind it. After want of memory the tables
--- may have got what it uses.
+-- A part is refused with the number of its fault at its place, and the tables are those after it. Where memory ran out the tables
+-- may have what it uses.
 abbrev pub RefusedPart : Part → List Opening → Tables → Tables → ReadRefusal → Type 0
 RefusedPart part os t t' (Refused number place) = ((taken os t part).fault ≡ Some number) × (place ≡ place_in part) × (t' ≡ (taken os t part).tables)
 RefusedPart part os t t' Memory = (t' ≡ t) ⊎ (t' ≡ with_part t part)
@@ -45,7 +45,7 @@ pub record IsInterned (old new : List (List ℕ)) (name : List ℕ) (id : ℕ) :
   pub number : id ≡ number_in new name
   pub names : new ≡ grown old name
 
--- a name is refused since there is no room for it, with this number at this place; want of memory leaves the names
+-- a name is refused with this number at this place, since there is no room for it; where memory ran out the names are as they were
 abbrev pub IsNotInterned : ℕ → ℕ → List (List ℕ) → List (List ℕ) → List ℕ → ReadRefusal → Type 0
 IsNotInterned full at old new name (Refused number place) = (has_room old name ≡ false) × (number ≡ full) × (place ≡ at) × (new ≡ old)
 IsNotInterned full at old new name Memory = new ≡ old
@@ -56,7 +56,7 @@ pub record IsLeaf (letters : List ℕ) (old new : List (List ℕ)) (leaf : Leaf)
       taken os (record { symbols = old; literals = literals }) (Token' place letters) ≡ datum_ends os (record { symbols = new; literals = literals })
   pub same : leaf ≡ leaf_of new letters (meaning_in letters)
 
--- a token is refused, whatever is open and whatever the literals; want of memory leaves the symbols
+-- a token is refused, whatever is open and whatever the literals; where memory ran out the symbols are as they were
 abbrev pub IsNoLeaf : List ℕ → ℕ → List (List ℕ) → List (List ℕ) → ReadRefusal → Type 0
 IsNoLeaf letters at old new (Refused number place) =
     ((os : List Opening) (literals : List (List ℕ)) →
@@ -64,7 +64,7 @@ IsNoLeaf letters at old new (Refused number place) =
     × (place ≡ at)
 IsNoLeaf letters at old new Memory = new ≡ old
 
--- the marks of parts, each with the tables behind it
+-- the marks of parts, each with the tables after it
 abbrev pub marks_from : List Opening → Tables → List Part → List Mark
 marks_from os t [] = []
 marks_from os t (part ∷ ps) = mark_of (taken os t part).tables part ∷ marks_from (taken os t part).opens (taken os t part).tables ps
@@ -74,11 +74,12 @@ abbrev pub innermost_place : List Opening → Option ℕ
 innermost_place [] = None
 innermost_place (o ∷ os) = Some (place_of o)
 
--- no fault, with the tables then
+-- no fault, and these tables
 abbrev pub faultless : Tables → Gathered
 faultless t = record { fault = None; tables = t }
 
--- a refusal is the fault that these parts come to, with the tables then; want of memory comes behind a front of them
+-- a refusal is the fault that these parts come to, with the tables at it; where memory ran out, the tables are those of the first
+-- parts, up to some part
 abbrev pub IsRefusalOf : List Part → Tables → Tables → ReadRefusal → Type 0
 IsRefusalOf ps before after (Refused number place) = gathered [] before ps ≡ faulty number place after
 IsRefusalOf ps before after Memory = HoldsFront ps before after

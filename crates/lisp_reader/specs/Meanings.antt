@@ -15,7 +15,7 @@ are_digits ds = nat_lt 0 (length ds) && list_all is_ascii_digit ds
 abbrev pub is_sign : ℕ → Bool
 is_sign b = (b == 43) || (b == 45)
 
--- what is behind the sign, where there is one
+-- the letters after the sign, where there is a sign; else all letters
 abbrev pub unsigned : List ℕ → List ℕ
 unsigned letters = if is_sign (get_or letters 0 0) then drop 1 letters else letters
 
@@ -25,11 +25,11 @@ integer_of below size =
     if below then (if nat_le size (2 ^ 62) then Integer (neg_ℤ (pos size)) else TooLarge)
     else if nat_lt size (2 ^ 62) then Integer (pos size) else TooLarge
 
--- how many digits are in front
+-- how many digits the letters begin with
 abbrev pub digits_before : List ℕ → ℕ
 digits_before letters = prefix_len is_ascii_digit letters
 
--- what is behind the digits in front and the dot
+-- the letters after the first digits and the dot
 abbrev pub behind_dot : List ℕ → List ℕ
 behind_dot letters = drop (digits_before letters + 1) letters
 
@@ -57,7 +57,7 @@ begins_as_number letters =
 abbrev pub is_name_letter : ℕ → Bool
 is_name_letter b = is_ascii_alphanumeric b || list_any (λ c. b == c) (codes "+-*/<>=!?$%&_^~@.")
 
--- one or more of them
+-- one or more characters of names
 abbrev pub is_symbol_name : List ℕ → Bool
 is_symbol_name name = nat_lt 0 (length name) && list_all is_name_letter name
 
@@ -75,7 +75,7 @@ is_package prefix =
 abbrev pub before_colon : List ℕ → ℕ
 before_colon letters = prefix_len (λ b. not (b == 58)) letters
 
--- where the name begins behind a prefix and one or two colons
+-- where the name begins after a prefix and one or two colons
 abbrev pub behind_colons : List ℕ → ℕ
 behind_colons letters = if get_or letters (before_colon letters + 1) 0 == 58 then before_colon letters + 2 else before_colon letters + 1
 
@@ -90,11 +90,11 @@ named letters =
     else if is_package (upper (take (before_colon letters) letters)) then symbol_at (behind_colons letters) letters
     else Bad
 
--- the keyword that a colon begins, where a name is behind it
+-- a token that begins with a colon: a keyword, where a name follows
 abbrev pub keyword_in : List ℕ → Meaning
 keyword_in letters = if is_symbol_name (drop 1 letters) then Keyword else Bad
 
--- What a token means: an integer, a time, the symbols `1+` and `1-`, no token where it begins as a number in another way, a
+-- What a token means: an integer, a time, the symbols `1+` and `1-`, nothing where it begins as a number does in another way, a
 -- keyword, or a symbol with or without a prefix. A symbol has the place of its name in the token.
 abbrev pub meaning_in : List ℕ → Meaning
 meaning_in letters =

@@ -15,8 +15,8 @@ pub data Part : Type 0 where
   OpenLiteral : (place : ℕ) → Part
   Token' : (place : ℕ) (letters : List ℕ) → Part
 
--- Where a text goes on: between parts, within a token, right behind the `#` of a `#'`, in a comment, in a literal that began at a
--- place with these characters so far, or there behind a `\`.
+-- Where a text goes on: between parts, within a token, directly after the `#` of a `#'`, in a comment, in a literal that began at
+-- a place and has these characters so far, or in such a literal after a `\`.
 pub data Where' : Type 0 where
   Between : Where'
   Within : Where'
@@ -30,7 +30,7 @@ abbrev pub begins_with_quote : List ℕ → Bool
 begins_with_quote [] = false
 begins_with_quote (b ∷ bs) = b == 39
 
--- one more letter, in front of the token that begins right behind it, or else a token of its own
+-- one more letter before a token that begins directly after it, or else as a token of its own
 abbrev pub with_token_letter : ℕ → ℕ → List Part → List Part
 with_token_letter p b [] = Token' p (b ∷ []) ∷ []
 with_token_letter p b (Token' q bs ∷ ps) =
@@ -51,8 +51,8 @@ parts_from (Inside start so_far) p (b ∷ bs) =
     else parts_from (Inside start (so_far ++ b ∷ [])) (suc p) bs
 parts_from (Escaped start so_far) p (b ∷ bs) = parts_from (Inside start (so_far ++ b ∷ [])) (suc p) bs
 parts_from Sharp p (b ∷ bs) = parts_from Between (suc p) bs
--- elsewhere each byte is a separator, begins a comment, a literal, a list or a quote, ends a list, or belongs to a token; a `#` in
--- front of `'` begins a quote where no token goes on
+-- elsewhere each byte is a separator, begins a comment, a literal, a list or a quote, ends a list, or belongs to a token; a `#`
+-- before `'` begins a quote where no token goes on
 parts_from Between p (b ∷ bs) =
     if is_separator b then parts_from Between (suc p) bs
     else if b == 59 then parts_from Comment (suc p) bs

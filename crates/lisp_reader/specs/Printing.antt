@@ -50,7 +50,7 @@ class_name RecursiveLock = codes "RECURSIVE-LOCK"
 class_name Timeout = codes "TIMEOUT"
 class_name DeadlineTimeout = codes "DEADLINE-TIMEOUT"
 
--- the text of a condition, where it has one, escaped behind a space
+-- a space and the text of a condition, escaped, where it has a text
 abbrev pub reason_text : (literals : List (List ℕ)) → Option ℕ → List ℕ
 reason_text literals None = []
 reason_text literals (Some s) = codes " " ++ string_text true (slice_get literals s)
@@ -59,7 +59,7 @@ reason_text literals (Some s) = codes " " ++ string_text true (slice_get literal
 abbrev pub class_text : (literals : List (List ℕ)) → Condition → List ℕ
 class_text literals c = codes "#<" ++ class_name c.class ++ reason_text literals c.text ++ codes ">"
 
--- plain, a condition prints as its text alone; without one as escaped
+-- how a condition prints plain: as its text alone, and where it has no text as it prints escaped
 abbrev pub plain_condition : (literals : List (List ℕ)) → Condition → Option ℕ → List ℕ
 plain_condition literals c None = class_text literals c
 plain_condition literals c (Some s) = string_text false (slice_get literals s)
@@ -69,7 +69,7 @@ abbrev pub condition_text : (escape : Bool) → (literals : List (List ℕ)) →
 condition_text true literals c = class_text literals c
 condition_text false literals c = plain_condition literals c c.text
 
--- the zeros before a number below 1,000,000 that make it six digits
+-- the zeros that make a number below 1,000,000 six digits long
 abbrev pub zeros_before : ℕ → List ℕ
 zeros_before n =
     if nat_lt n 10 then codes "00000"
@@ -87,8 +87,8 @@ time_text t = decimal (t / 1000000) ++ codes "." ++ zeros_before (t % 1000000) +
 abbrev pub object_text : List ℕ → ℕ → List ℕ
 object_text kind n = codes "#<" ++ kind ++ codes " " ++ decimal n ++ codes ">"
 
--- The text of a value, with the names of symbols and the texts of string literals. It differs by `escape` at strings and
--- conditions alone.
+-- The text of a value, with the names of symbols and the texts of string literals. Only strings and conditions differ by
+-- `escape`.
 abbrev pub printed : (escape : Bool) → (symbols literals : List (List ℕ)) → Node → List ℕ
 printed escape symbols literals (Int z) = signed_decimal z
 printed escape symbols literals (Symbol s) = symbol_text symbols s

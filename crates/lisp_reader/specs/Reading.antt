@@ -36,7 +36,7 @@ pub data IsRefused (bytes : List ℕ) (before after : Tables) (number place : �
       → IsRefused bytes before after number place
   in_reading : IsText bytes → gathered [] before (parts_of bytes) ≡ faulty number place after → IsRefused bytes before after number place
 
--- A refusal says why the text is refused. After want of memory the tables hold the symbols and literals of a front of the text.
+-- A refusal says why the text is refused. Where memory ran out the tables hold the symbols and literals of the beginning of the text.
 abbrev pub IsRefusal : List ℕ → Tables → Tables → ReadRefusal → Type 0
 IsRefusal bytes before after (Refused number place) = IsRefused bytes before after number place
 IsRefusal bytes before after Memory = HoldsFront (parts_of bytes) before after

@@ -1,4 +1,4 @@
--- How one part is scanned from the front of a text.
+-- How one part is scanned at a place of a text.
 use Rattle.std.specs.Prelude.{◌≡◌, ℕ, ◌<◌, ◌≤◌, List, ◌∷◌, Bool, not, ◌||◌, ◌==◌, length, take, drop, string_bytes}
 use Rattle.std.specs.Str.{IsUtf8}
 use Rattle.lisp_reader.specs.declared.scan.PartKind.{PartKind}
@@ -25,7 +25,7 @@ part_of text at (Text characters) = Literal at (string_bytes characters)
 part_of text at OpenText = OpenLiteral at
 part_of text at (Token count) = Token' at (take count (drop at text))
 
--- A text goes on at a later place, with characters that are whole there.
+-- A text goes on at a later place, where a character begins.
 pub record GoesOn (text : List ℕ) (at next : ℕ) : Type 0 where
   pub further : at < next
   pub inside : next ≤ length text

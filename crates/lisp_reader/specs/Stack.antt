@@ -6,7 +6,7 @@ abbrev pub top_of : {T : Type 0} → List T → Option T
 top_of [] = None
 top_of (x ∷ xs) = Some x
 
--- what lies below the top
+-- what is below the top
 abbrev pub below : {T : Type 0} → List T → List T
 below [] = []
 below (x ∷ xs) = xs

@@ -8,11 +8,11 @@ use Rattle.symbol_table.specs.declared.TheConstants.{NAMES}
 abbrev pub number_in : List (List ℕ) → List ℕ → ℕ
 number_in names name = position_or_len (bytes_eq name) names
 
--- the names with one that is used: a new one comes behind the others
+-- the names with one that is used: a new one comes after the others
 abbrev pub grown : List (List ℕ) → List ℕ → List (List ℕ)
 grown names name = if list_any (bytes_eq name) names then names else names ++ name ∷ []
 
--- a name may be used where it is there, or there is room
+-- a name may be used where it is there, or where there is room for it
 abbrev pub has_room : List (List ℕ) → List ℕ → Bool
 has_room names name = list_any (bytes_eq name) names || nat_lt (length names) NAMES
 

@@ -8,12 +8,12 @@ use lisp_base::memory::Memory;
 use lisp_data::datum::{DatumKind, DatumNode};
 use std::alloc::Global;
 
-/// What the marks from some mark on have built.
+/// What the marks from one mark to the last have built.
 #[derive(Drop)]
 pub struct Builder {
-    /// How many items the innermost list has so far, whose beginning is still to come, or else the top level.
+    /// How many items the innermost list whose beginning is still to come has so far, or else the top level.
     pub items: u32,
-    /// The same of the lists around it, innermost first.
+    /// How many items the lists round it have so far, innermost first.
     pub outer: Stack<u32>,
     /// The nodes, in preorder.
     pub nodes: Stack<DatumNode>,
@@ -39,7 +39,7 @@ impl Builder {
         Ok(())
     }
 
-    /// The end of a list, of which nothing is seen yet.
+    /// Takes the end of a list, of which no item is seen yet.
     fn close(&mut self) -> Result<(), Memory>
         ensures { OnOk result (self.new ≡ closed self.old) }
     {
@@ -48,7 +48,7 @@ impl Builder {
         Ok(())
     }
 
-    /// The beginning of the innermost list.
+    /// Takes the beginning of the innermost list.
     fn open(&mut self, place: Place) -> Result<(), Memory>
         requires { total self.old + 1 < 2 ^ 32 }
         ensures { OnOk result (self.new ≡ opened place self.old) }
@@ -59,7 +59,7 @@ impl Builder {
         Ok(())
     }
 
-    /// A quote in front of a datum: a list of its symbol and that datum.
+    /// Takes a quote before a datum: it makes a list of its symbol and that datum.
     fn quote(&mut self, symbol: SymbolId, place: Place) -> Result<(), Memory>
         ensures { OnOk result (self.new ≡ quoted symbol place self.old) }
     {
@@ -74,7 +74,7 @@ impl Builder {
         Ok(())
     }
 
-    /// One mark more, in front of the others.
+    /// Takes one more mark, which is before the others.
     fn add(&mut self, mark: Mark) -> Result<(), Memory>
         requires { total self.old + 1 < 2 ^ 32 }
         ensures { OnOk result (self.new ≡ moved mark.kind mark.place self.old) }

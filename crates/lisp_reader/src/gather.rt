@@ -25,7 +25,7 @@ use symbol_table::error::InternError;
 use symbol_table::symbols::Symbols;
 use symbol_table::texts::Texts;
 
-/// What a part of a text is, where symbols and literals have numbers.
+/// What a part of a text is, with the numbers of symbols and literals.
 #[derive(Clone, Copy)]
 pub enum MarkKind {
     /// A list opens.
@@ -123,7 +123,7 @@ fn token_leaf(
     }
 }
 
-/// So many letters from a place on, or as many as there are.
+/// So many letters from a place on, or fewer where the text ends before.
 fn letters_at(text: &[u8], at: usize, count: usize) -> &[u8]
     ensures { result.now ≡ take count (drop at text.now) }
 {
@@ -139,7 +139,7 @@ struct Gatherer {
 }
 
 impl Gatherer {
-    /// Nothing. It takes no memory.
+    /// Nothing is gathered. It takes no memory.
     fn new(alloc: Global) -> Self
         ensures opens { result.opens ≡ [] }
         ensures marks { result.marks.items ≡ [] }
@@ -150,7 +150,7 @@ impl Gatherer {
         }
     }
 
-    /// Puts a mark behind the others.
+    /// Puts a mark after the others.
     fn put(&mut self, kind: MarkKind, place: Place) -> Result<(), Memory>
         ensures marks { OnOk result (self.new.marks.items ≡ self.old.marks.items ++ (record { kind = kind; place = place }) ∷ []) }
         ensures opens { self.new.opens ≡ self.old.opens }

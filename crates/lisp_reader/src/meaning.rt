@@ -19,11 +19,11 @@ pub enum Meaning {
     Keyword,
     /// A number that is out of range.
     TooLarge,
-    /// No token.
+    /// Nothing: such a token is refused.
     Bad,
 }
 
-/// The first size that no integer has, below zero or not.
+/// The least size that no integer has, below zero or not.
 const TOO_LARGE: u64 = (1 << 62) + 1;
 
 /// The size that only integers below zero may have.
@@ -35,10 +35,10 @@ const MOST_SECONDS: u64 = 4_000_000_000;
 /// The microseconds of a second.
 const SECOND: u64 = 1_000_000;
 
-/// The digits that a time may have behind its dot.
+/// How many digits a time may have after its dot.
 const MOST_DECIMALS: usize = 6;
 
-/// The letter at a place, or 0 behind the last.
+/// The letter at a place, or 0 after the last one.
 fn letter_at(letters: &[u8], place: usize) -> u8
     ensures { result ≡ get_or letters.now place 0 }
 {
@@ -73,7 +73,7 @@ fn is_sign(letter: u8) -> bool
     letter == b'+' || letter == b'-'
 }
 
-/// What is behind the sign, where there is one.
+/// The letters after the sign, where there is a sign; else all letters.
 fn unsigned(letters: &[u8]) -> &[u8]
     ensures { result.now ≡ Meanings.unsigned letters.now }
 {
@@ -84,7 +84,7 @@ fn unsigned(letters: &[u8]) -> &[u8]
     }
 }
 
-/// The number with these digits, or `TOO_LARGE` where it is no less.
+/// The number with these digits, or `TOO_LARGE` where it is not below that.
 fn size(digits: &[u8]) -> u64
     requires { IsTrue (list_all is_ascii_digit digits.now) }
     ensures { result ≡ min TOO_LARGE (digits_value 10 digits.now) }
@@ -112,7 +112,7 @@ fn integer(below: bool, size: u64) -> Meaning
     Meaning::TooLarge
 }
 
-/// How many digits are in front.
+/// How many digits these letters begin with.
 fn digits_before(letters: &[u8]) -> usize
     ensures digits { result ≡ Meanings.digits_before letters.now }
     ensures within { result ≤ length letters.now }
@@ -123,7 +123,7 @@ fn digits_before(letters: &[u8]) -> usize
         .count()
 }
 
-/// What is behind the digits in front and the dot.
+/// The letters after the first digits and the dot.
 fn behind_dot(letters: &[u8]) -> &[u8]
     ensures { result.now ≡ Meanings.behind_dot letters.now }
 {
@@ -199,7 +199,7 @@ fn are_same_folded(letters: &[u8], others: &[u8]) -> bool
     letters.eq_ignore_ascii_case(others)
 }
 
-/// Whether these letters, in upper case, name a package that may stand in front of a symbol.
+/// Whether these letters, in upper case, name a package that may be the prefix of a symbol.
 fn is_package(prefix: &[u8]) -> bool
     ensures { result ≡ Meanings.is_package (Meanings.upper prefix.now) }
 {
@@ -219,7 +219,7 @@ fn before_colon(letters: &[u8]) -> usize
     letters.iter().take_while(|letter| **letter != b':').count()
 }
 
-/// Where the name begins behind a prefix and one or two colons.
+/// Where the name begins after a prefix and one or two colons.
 fn behind_colons(letters: &[u8]) -> usize
     ensures { result ≡ Meanings.behind_colons letters.now }
 {
@@ -242,7 +242,7 @@ fn symbol_at(start: usize, letters: &[u8]) -> Meaning
     }
 }
 
-/// What a token is that has a name, or a prefix and a name.
+/// What a token means that is a name, or a prefix and a name, or anything else.
 fn named(letters: &[u8]) -> Meaning
     ensures { result ≡ Meanings.named letters.now }
 {
@@ -256,7 +256,7 @@ fn named(letters: &[u8]) -> Meaning
     Meaning::Bad
 }
 
-/// What the keyword is that a colon begins.
+/// What a token means that begins with a colon.
 fn keyword(letters: &[u8]) -> Meaning
     ensures { result ≡ Meanings.keyword_in letters.now }
 {

@@ -20,7 +20,7 @@ pub enum Opening {
     Quote(Place),
 }
 
-/// What is open, which contracts see as a list, the innermost first.
+/// All that is open, which contracts see as a list, the innermost first.
 #[derive(Drop)]
 pub struct Opens {
     items: Vec<Opening>,
@@ -52,7 +52,7 @@ impl Opens {
         self.items.len() == MOST_OPEN
     }
 
-    /// Something opens inside what is open.
+    /// Opens something inside what is open.
     pub fn push(&mut self, opening: Opening) -> Result<(), Memory>
         ensures { OnOk result (self.new ≡ opening ∷ self.old) }
     {
@@ -60,7 +60,7 @@ impl Opens {
         Ok(())
     }
 
-    /// A datum ends, and with it all quotes that wait for it.
+    /// Ends a datum, and with it all quotes that wait for it.
     pub fn settle(&mut self)
         ensures { self.new ≡ settled self.old }
     {
@@ -69,7 +69,7 @@ impl Opens {
         }
     }
 
-    /// Takes away the innermost that is open, where it is a list, and says whether it is.
+    /// Takes the innermost away where it is a list, and says whether it is one.
     pub fn close(&mut self) -> bool
         ensures closed { OnTrue result (closed_by self.old ≡ Some self.new) }
         ensures unmatched { OnFalse result (closed_by self.old ≡ None) }

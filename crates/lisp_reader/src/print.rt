@@ -42,7 +42,7 @@ pub fn print_string(alloc: Global, characters: &str) -> Result<String, Memory>
     text.finish()
 }
 
-/// Writes a value behind a text, as `print_value` prints it.
+/// Writes a value at the end of a text, as `print_value` prints it.
 pub fn push_value(
     alloc: Global,
     text: &mut TextWriter,
@@ -75,7 +75,7 @@ fn push_symbol(text: &mut TextWriter, symbol: SymbolId, symbols: &Symbols)
     }
 }
 
-/// Writes a character of a string behind a text, with a `\` before it where it is `"` or `\`.
+/// Writes a character of a string at the end of a text, with a `\` before it where it is `"` or `\`.
 fn push_character(text: &mut TextWriter, character: char)
     ensures { Wrote text.old text.new (flat_map escaped_byte (encode_utf8 character)) }
 {
@@ -86,7 +86,7 @@ fn push_character(text: &mut TextWriter, character: char)
     }
 }
 
-/// Writes the characters of a string behind a text, with a `\` before `"` and `\`.
+/// Writes the characters of a string at the end of a text, with a `\` before `"` and `\`.
 fn push_characters(text: &mut TextWriter, characters: &str)
     ensures { Wrote text.old text.new (flat_map escaped_byte characters.now) }
 {
@@ -95,7 +95,7 @@ fn push_characters(text: &mut TextWriter, characters: &str)
     }
 }
 
-/// Writes a string behind a text, escaped.
+/// Writes a string at the end of a text, escaped.
 fn push_escaped(text: &mut TextWriter, characters: &str)
     ensures { Wrote text.old text.new (escaped_string characters.now) }
 {
@@ -104,7 +104,7 @@ fn push_escaped(text: &mut TextWriter, characters: &str)
     text.push_str("\"");
 }
 
-/// Writes the string with a number behind a text.
+/// Writes the string with a number at the end of a text.
 fn push_string(text: &mut TextWriter, string: StringId, escape: bool, texts: &Texts)
     ensures { Wrote text.old text.new (string_text escape (slice_get texts.now string)) }
 {
@@ -120,7 +120,7 @@ fn push_string(text: &mut TextWriter, string: StringId, escape: bool, texts: &Te
     }
 }
 
-/// The zeros before a number of microseconds below a second that make it six digits.
+/// The zeros that make a number of microseconds below a second six digits long.
 fn zeros_before(micros: u64) -> &'static str
     ensures { result.now ≡ zeros_before micros }
 {
@@ -139,7 +139,7 @@ fn zeros_before(micros: u64) -> &'static str
     }
 }
 
-/// Writes a time behind a text, in seconds with six digits behind the dot.
+/// Writes a time at the end of a text, in seconds with six digits after the dot.
 fn push_time(alloc: Global, text: &mut TextWriter, time: Micros)
     ensures { Wrote text.old text.new (time_text time) }
 {
@@ -150,7 +150,7 @@ fn push_time(alloc: Global, text: &mut TextWriter, time: Micros)
     text.push_decimal(alloc, rest);
 }
 
-/// Writes an object behind a text: its kind and its number.
+/// Writes an object at the end of a text: its kind and its number.
 fn push_object(alloc: Global, text: &mut TextWriter, kind: &str, number: u32)
     ensures { Wrote text.old text.new (object_text kind.now number) }
 {
@@ -190,7 +190,7 @@ fn name_of(class: Class) -> &'static str
     }
 }
 
-/// Writes the text of a condition behind a text, where it has one.
+/// Writes the text of a condition at the end of a text, where the condition has one.
 fn push_reason(text: &mut TextWriter, reason: Option<StringId>, texts: &Texts)
     ensures { Wrote text.old text.new (reason_text texts.now reason) }
 {
@@ -200,7 +200,7 @@ fn push_reason(text: &mut TextWriter, reason: Option<StringId>, texts: &Texts)
     }
 }
 
-/// Writes a condition behind a text: its class, and its text where it has one.
+/// Writes a condition at the end of a text: its class, and its text where it has one.
 fn push_class(text: &mut TextWriter, condition: Condition, texts: &Texts)
     ensures { Wrote text.old text.new (class_text texts.now condition) }
 {
@@ -210,7 +210,7 @@ fn push_class(text: &mut TextWriter, condition: Condition, texts: &Texts)
     text.push_str(">");
 }
 
-/// Writes a condition behind a text.
+/// Writes a condition at the end of a text, escaped or plain.
 fn push_condition(text: &mut TextWriter, condition: Condition, escape: bool, texts: &Texts)
     ensures { Wrote text.old text.new (condition_text escape texts.now condition) }
 {

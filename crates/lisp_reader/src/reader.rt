@@ -17,8 +17,8 @@ use symbol_table::texts::Texts;
 const LONGEST: usize = 1_048_576;
 
 /// Reads the text of a program: the data at its top level, in order. Its names and string literals go into the tables, each new one
-/// with the next number, in the order of their first use. It errs where the text is none, and where memory runs out; then the
-/// tables keep what came into them.
+/// with the next number, in the order of their first use. It errs where the text is not that of a program, and where memory
+/// runs out. The tables then keep what came into them.
 pub fn read_program(
     alloc: Global,
     text: &[u8],
@@ -40,7 +40,7 @@ pub fn read_program(
     Ok(data)
 }
 
-/// A text has at most one reading. There is nothing to run: the clause is the law, as in the three below.
+/// A text has at most one reading. There is nothing to run: the clause is the law, as it is in the three functions below.
 pub fn one_reading()
     ensures { OneReading }
 {}

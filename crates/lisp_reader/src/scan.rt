@@ -14,7 +14,7 @@ pub enum PartKind {
     Open,
     /// `)`
     Close,
-    /// `'`, or where the flag is set `#'`
+    /// `'`, or `#'` where the flag is set
     Quote(bool),
     /// A string literal, with its characters.
     Text(String),
@@ -62,7 +62,7 @@ fn token_len(text: &[u8]) -> usize
         .count()
 }
 
-/// How many bytes are left of the line that a text begins in.
+/// How many bytes there are before the end of the first line of a text.
 fn line_len(text: &[u8]) -> usize
     ensures bytes { result ≡ prefix_len is_on_line text.now }
     ensures within { result ≤ length text.now }

@@ -36,7 +36,7 @@ under_steps (Defvar s) = strung false
 under_steps Let = strung false
 under_steps (Bind s above) = body_steps
 
--- the steps of a form of this kind at this place before those of the forms under it; the number of a test comes later
+-- the steps of a form of this kind at this place before those of the forms under it; the number of a test is set later
 abbrev pub opening_steps : PlainKind → ℕ → List Step
 opening_steps (Constant v) p = []
 opening_steps Plus p = []
@@ -49,7 +49,7 @@ opening_steps Let p = []
 opening_steps (Bind s above) p = Enter (OpenBind s above) p ∷ []
 
 -- The steps of a form that begins at `start`, once those of the forms under it are written. Under a constant or a
--- variable there are none; a test passes over all steps behind it.
+-- variable there are none; a test passes over all steps after it.
 abbrev pub closing_steps : PlainKind → ℕ → List Step → List Step
 closing_steps (Constant v) start steps = take start steps ++ Act (Push v) ∷ []
 closing_steps Plus start steps = steps ++ Act Add ∷ []
@@ -61,15 +61,15 @@ closing_steps (Defvar s) start steps = slice_set steps start (Test s (length ste
 closing_steps Let start steps = steps
 closing_steps (Bind s above) start steps = steps ++ Leave ∷ []
 
--- between two forms of a body, where more forms are wanted and more nodes are there
+-- what stands between two forms of a body, where more forms are to come and more nodes are there
 abbrev pub between : Bool → ℕ → List PlainNode → List Step
 between body zero nodes = []
 between body (suc left) [] = []
 between false (suc left) (n ∷ nodes) = []
 between true (suc left) (n ∷ nodes) = Act Discard ∷ []
 
--- The steps of the next so many forms, put together so, were written behind the old ones, from the node at `from` on,
--- and the forms after them begin at node `next`.
+-- The steps of the next so many forms from the node at `from` on, put together in this way, were written after the old
+-- ones, and the forms after these forms begin at node `next`.
 pub record Writes (nodes : List PlainNode) (from count : ℕ) (together : List Points → List Step) (old new : List Step) (next : ℕ) : Type 0 where
   pub after : from ≤ next
   pub within : next ≤ length nodes

@@ -1,4 +1,4 @@
--- Which core forms are run, and how they are as plain forms.
+-- Which core forms are run, and which plain forms they are.
 use Rattle.std.specs.Prelude.{ℕ, Option, Some, None, min}
 use Rattle.lisp_base.specs.Forest.{Forest, NoTrees, Tree}
 use Rattle.lisp_program.specs.declared.form.CoreKind.{CoreKind}
@@ -27,12 +27,12 @@ kind_of (Defvar s) = CoreDefvar s
 kind_of Let = CoreLet
 kind_of (Bind s above) = BindSpecial s above
 
--- of the functions with local points `+` is run
+-- of the functions with local points, `+` is run
 abbrev pub plain_primitive : Primitive → Option PlainKind
 plain_primitive Add = Some Plus
 plain_primitive other = None
 
--- of those that print `print` is run
+-- of the functions that print, `print` is run
 abbrev pub plain_printing : Printing → Option PlainKind
 plain_printing ThePrint = Some Print
 plain_printing other = None
@@ -50,7 +50,7 @@ plain_kind CoreLet = Some Let
 plain_kind (BindSpecial s above) = Some (Bind s above)
 plain_kind other = None
 
--- the same, where the constant NIL stands for a kind that is not run yet
+-- a plain kind, or the constant NIL for a kind that is not run yet
 abbrev pub kind_or_nil : Option PlainKind → PlainKind
 kind_or_nil None = Constant nil
 kind_or_nil (Some k) = k
@@ -72,18 +72,18 @@ plain_program p = record { forms = plain_forms p.forms; specials = p.specials }
 abbrev pub whole_forms : PlainForms → Forms
 whole_forms f = mapped kind_of f
 
--- the least of two places, where there are any
+-- the least of two places, of those that there are
 abbrev pub least : Option ℕ → Option ℕ → Option ℕ
 least None b = b
 least (Some a) None = Some a
 least (Some a) (Some b) = Some (min a b)
 
--- a place that counts where there is no plain kind
+-- the place of a form that has no plain kind
 abbrev pub place_without : Option PlainKind → ℕ → Option ℕ
 place_without None p = Some p
 place_without (Some k) p = None
 
--- the least place of a form that is not run yet, over all of these and those under them
+-- the least place of a form that is not run yet, among these and those under them
 abbrev pub first_unbuilt : Forms → Option ℕ
 first_unbuilt NoTrees = None
 first_unbuilt (Tree k p under beside) = least (place_without (plain_kind k) p) (least (first_unbuilt under) (first_unbuilt beside))

@@ -18,7 +18,7 @@ abbrev pub nil : Node
 nil = Symbol 0
 
 -- What a thread has still to do in a stretch: nothing more, or one point and what comes after it. A point has the place
--- of the form that it belongs to. Where a stretch in a frame is done, one point more leaves the frame.
+-- of the form that it belongs to. Where a stretch in a frame is done, one more point leaves the frame.
 pub data Points : Type 0 where
   Done : Points
   Do : (act : Act) (place : ℕ) (after : Points) → Points
@@ -62,7 +62,7 @@ table Progn p fs = body_of p fs
 table (Special s) p fs = Ask (Read s) p Done
 -- `setq`: its value, and 1 point
 table (Setq s) p fs = joined (all_of fs) (Ask (Write s) p Done)
--- `defvar`: the operation `boundp`; where that says NIL its value, and the operation `set`
+-- `defvar`: the operation `boundp`; where the reply is NIL, its value and the operation `set`
 table (Defvar s) p fs = Test s p (joined (all_of fs) (Ask (Define s) p Done)) Done
 -- `let`: the values in order; then 1 point for each variable in order, the body, and 1 point for each variable, last first
 table Let p fs = all_of fs

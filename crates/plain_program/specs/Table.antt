@@ -47,10 +47,10 @@ whole_points (Enter o p body after) = WholeEnter (whole_opening o) p (whole_poin
 abbrev pub OneTable : Type 0
 OneTable = (f : PlainForms) → map whole_points (points_of f) ≡ whole_points_of (whole_forms f)
 
--- and so are main's
+-- the points of main are those of main in the whole table
 abbrev pub OneMain : Type 0
 OneMain = (f : PlainForms) → whole_points (main_points f) ≡ whole_main_points (whole_forms f)
 
--- where all forms are run, the plain forms are these forms
+-- where all forms are run, the plain forms are those forms
 abbrev pub SameForms : Type 0
 SameForms = (f : Forms) → first_unbuilt f ≡ None → whole_forms (plain_forms f) ≡ f

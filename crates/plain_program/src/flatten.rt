@@ -12,7 +12,7 @@ use lisp_base::memory::Memory;
 use lisp_base::value::Value;
 use std::alloc::Global;
 
-/// Discards the value of a form of a body where `left` more forms are wanted and the node at `at` is there.
+/// Discards the value of a form of a body where `left` more forms are to come and there is a node at `at`.
 #[tactic(auto, using(crate::proofs::Flattened::between_there, crate::proofs::Flattened::between_outside, crate::proofs::Flattened::between_no_body))]
 fn push_between(
     body: bool,
@@ -31,7 +31,7 @@ fn push_between(
     }
 }
 
-/// Writes the steps of the next `count` forms from the node at `from` on, and says at which node the forms after
+/// Writes the steps of the next `count` forms from the node at `from` on, and gives the node at which the forms after
 /// them begin.
 #[cycle(forms)]
 fn push_forms(

@@ -16,12 +16,12 @@ pub enum PlainKind {
     Defvar(SymbolId),
     /// `let`: the values of its variables stand under it, and then one `Bind`.
     Let,
-    /// One variable of a `let`, which takes the value that has so many others in front. Under it stands the next
+    /// One variable of a `let`, which takes the value that has so many others before it. Under it stands the next
     /// variable, or the body.
     Bind(SymbolId, u32),
 }
 
-/// One such form of a program in preorder: its kind, its place, and how many forms stand directly under it.
+/// One form of a program in preorder: its kind, its place, and how many forms stand directly under it.
 #[derive(Clone, Copy, Debug, PartialEq, Eq)]
 pub struct PlainNode {
     pub kind: PlainKind,

@@ -1,4 +1,4 @@
-//! A form's own steps, before those of the forms under it and behind them.
+//! A form's own steps, before those of the forms under it and after them.
 ghost use Rattle.std.specs.Prelude.{◌≡◌, ◌++◌, ◌∷◌, [], ◌+◌, ◌<◌, ◌≤◌, take, length, OnOk};
 ghost use Rattle.plain_program.specs.Flatten.{opening_steps, closing_steps};
 
@@ -22,7 +22,7 @@ pub fn push_opening(node: &PlainNode, steps: &mut Vec<Step>) -> Result<(), Memor
     }
 }
 
-/// Ends the form at a node, which begins at `start`, where the steps of the forms under it now stand.
+/// Ends the form at a node. Its steps begin at `start`, and those of the forms under it are written.
 pub fn push_closing(node: &PlainNode, start: usize, steps: &mut Vec<Step>) -> Result<(), Memory>
     requires { start + length (opening_steps node.now.kind node.now.place) ≤ length steps.old.items }
     ensures { OnOk result (steps.new.items ≡ closing_steps node.now.kind start steps.old.items) }
@@ -51,7 +51,7 @@ fn push_one(step: Step, steps: &mut Vec<Step>) -> Result<(), Memory>
     Ok(())
 }
 
-/// Puts one step in place of all from `start` on.
+/// Puts one step in the place of all steps from `start` on.
 fn push_in_place(step: Step, start: usize, steps: &mut Vec<Step>) -> Result<(), Memory>
     ensures { OnOk result (steps.new.items ≡ take start steps.old.items ++ step ∷ []) }
 {
@@ -60,7 +60,7 @@ fn push_in_place(step: Step, start: usize, steps: &mut Vec<Step>) -> Result<(), 
     Ok(())
 }
 
-/// Ends a `defvar` whose test stands at `start`: the test passes over the value and this.
+/// Ends a `defvar` whose test stands at `start`: the test passes over the steps of the value and over this one.
 fn push_defined(symbol: SymbolId, start: usize, steps: &mut Vec<Step>) -> Result<(), Memory>
     requires { start < length steps.old.items }
     ensures { OnOk result (steps.new.items ≡ closing_steps (PlainKind.Defvar symbol) start steps.old.items) }

@@ -11,7 +11,7 @@ use lisp_program::form::{CoreKind, FormNode};
 use lisp_program::function::{Primitive, Printing};
 use std::alloc::Global;
 
-/// What a function with local points is as a plain kind.
+/// The plain kind that a function with local points is: `None` where it is not run yet.
 fn plain_primitive(primitive: Primitive) -> Option<PlainKind>
     ensures { result ≡ primitive_of primitive }
 {
@@ -21,7 +21,7 @@ fn plain_primitive(primitive: Primitive) -> Option<PlainKind>
     }
 }
 
-/// What a function that prints is as a plain kind.
+/// The plain kind that a function that prints is: `None` where it is not run yet.
 fn plain_printing(printing: Printing) -> Option<PlainKind>
     ensures { result ≡ printing_of printing }
 {
@@ -49,7 +49,7 @@ fn plain_kind(kind: CoreKind) -> Option<PlainKind>
     }
 }
 
-/// The plain kind that a core kind is, and the constant NIL where it is not run yet.
+/// The plain kind that a core kind is, or the constant NIL where it is not run yet.
 fn kind_or_nil(kind: CoreKind) -> PlainKind
     ensures { result ≡ kind_or_nil_of (plain_kind_of kind) }
 {
@@ -59,7 +59,7 @@ fn kind_or_nil(kind: CoreKind) -> PlainKind
     }
 }
 
-/// Forms as plain forms. A form whose kind is not run yet is the constant NIL.
+/// Forms as plain forms. A form whose kind is not run yet becomes the constant NIL.
 pub fn plain_nodes(alloc: Global, main: &[FormNode]) -> Result<Vec<PlainNode>, Memory>
     ensures { IfOk result (λ nodes. forms_of nodes.items ≡ plain_forms (core_forms_of main.now)) }
 {
@@ -74,7 +74,7 @@ pub fn plain_nodes(alloc: Global, main: &[FormNode]) -> Result<Vec<PlainNode>, M
     Ok(nodes)
 }
 
-/// The place of a form whose kind is not run yet.
+/// The place of a form whose kind is not run yet: `None` for any other form.
 fn unbuilt(node: &FormNode) -> Option<Place>
     ensures { result ≡ place_without (plain_kind_of node.now.kind) node.now.place }
 {
@@ -84,7 +84,7 @@ fn unbuilt(node: &FormNode) -> Option<Place>
     }
 }
 
-/// The least of two places, where there are any.
+/// The least of two places: of those that there are.
 fn least(one: Option<Place>, other: Option<Place>) -> Option<Place>
     ensures { result ≡ least_of one other }
 {

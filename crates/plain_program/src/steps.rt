@@ -6,7 +6,7 @@ use lisp_base::id::{Place, SymbolId};
 pub enum Step {
     Act(Act),
     Ask(Question),
-    /// Asks whether a special variable has a global value; where it has, so many steps after this one are passed over.
+    /// Asks whether a special variable has a global value. Where it has one, so many steps after this one are passed over.
     Test(SymbolId, usize),
     /// Opens a frame, of the form at this place.
     Enter(Opening, Place),

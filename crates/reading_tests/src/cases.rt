@@ -1,15 +1,15 @@
 //! Tables of cases: one string each, since the elements of an array would each cost the prover time.
 //!
-//! The first line tells the number of the cases, so that none is lost unseen. Each case has a line, `text => outcome`. A line with no ` => ` is a comment and begins with `--`.
+//! The first line says how many cases there are, so that none is lost unseen. Each case is a line, `text => outcome`. A line with no ` => ` is a comment and begins with `--`.
 //!
-//! In texts and outcomes a picture stands for a character that is not seen, as ␊ for a newline. Between ‹ and › stand bytes in hexadecimal, as `‹c3 28›`, or what is repeated: `‹256×(›`, and with numbers `‹1000..1003×:№ ›` for `:1000 :1001 :1002 `. Nothing at all is `‹›`.
+//! In texts and outcomes a picture stands for a character that cannot be seen, as ␊ for a newline. Between ‹ and › are bytes in hexadecimal, as `‹c3 28›`, or what is repeated: `‹256×(›`, and with numbers `‹1000..1003×:№ ›` for `:1000 :1001 :1002 `. Nothing at all is `‹›`.
 use crate::tables::{Tables, Told};
 use std::alloc::Global;
 use std::io::Write;
 use std::process::Abort;
 use std::test::Fail;
 
-/// A text and what it reads as, both as the table has them.
+/// A text and its outcome, both as they are written in the table.
 #[derive(Clone, Copy)]
 struct Case<'t> {
     text: &'t str,
@@ -17,7 +17,7 @@ struct Case<'t> {
 }
 
 impl Case<'_> {
-    /// Reads the text over tables.
+    /// Reads the text over tables and compares the outcome.
     fn check(
         self,
         rt: &impl Abort,
@@ -88,7 +88,7 @@ fn count_of(line: &str) -> Result<usize, Fail> {
     Ok(number.parse()?)
 }
 
-/// Puts the case of a line behind others, if it has one.
+/// Adds the case of a line to the others, if it has one.
 fn push_case<'t>(cases: &mut Vec<Case<'t>>, line: &'t str) -> Result<(), Fail> {
     match line.split_once(" => ") {
         Some((text, outcome)) => Ok(cases.push(Case { text, outcome })?),
@@ -111,7 +111,7 @@ fn bytes_of(alloc: Global, written: &str) -> Result<Vec<u8>, Fail> {
     Ok(bytes)
 }
 
-/// Puts bytes in hexadecimal behind others.
+/// Adds bytes that are written in hexadecimal.
 fn push_codes(bytes: &mut Vec<u8>, codes: &str) -> Result<(), Fail> {
     for code in codes.split_whitespace() {
         bytes.push(u8::from_str_radix(code, 16)?)?;
@@ -119,7 +119,7 @@ fn push_codes(bytes: &mut Vec<u8>, codes: &str) -> Result<(), Fail> {
     Ok(())
 }
 
-/// Puts characters behind bytes once for each number of a range, which begins at 0 if only its end is written.
+/// Adds characters once for each number of a range, which begins at 0 if only its end is written.
 fn push_repeated(bytes: &mut Vec<u8>, numbers: &str, repeated: &str) -> Result<(), Fail> {
     let (first, end) = numbers.split_once("..").unwrap_or(("0", numbers));
     let (first, end): (u32, u32) = (first.parse()?, end.parse()?);
@@ -129,7 +129,7 @@ fn push_repeated(bytes: &mut Vec<u8>, numbers: &str, repeated: &str) -> Result<(
     Ok(())
 }
 
-/// Puts characters behind bytes, each picture as what it stands for.
+/// Adds characters, each picture as what it stands for.
 fn push_plain(bytes: &mut Vec<u8>, plain: &str, number: u32) -> Result<(), Fail> {
     for character in plain.chars() {
         if character == '№' {

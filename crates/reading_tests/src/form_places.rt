@@ -1,4 +1,4 @@
-//! Which programs are refused for their names and for what they have round them, and which of two refusals is told.
+//! Which programs are refused for their names and for what stands round their forms, and which of two refusals is given.
 use crate::cases::check;
 use crate::tables::Told;
 use std::test::Fail;

@@ -1,6 +1,6 @@
 //! Expanded programs as text, for the tests of the expander.
 //!
-//! A constant is its value, and any other form a list of a word and what stands behind it: names, values and numbers of its kind, and the forms under it. `(if (local 0) 1 NIL)` tests the lexical variable 0. Behind main's forms stands each function, as `(function F 2 ..)` with its name or place, how many parameters it has, and its body.
+//! A constant is its value, and any other form a list of a word and what comes after it: names, values and numbers of its kind, and the forms under it. `(if (local 0) 1 NIL)` tests the lexical variable 0. After main's forms comes each function, as `(function F 2 ..)` with its name or place, how many parameters it has, and its body.
 use crate::form_words::{keys, numbers, symbol, value, word};
 use crate::tables::Tables;
 use form_shapes::refusal::ExpandRefusal;
@@ -63,7 +63,7 @@ fn printed(
     Ok(printed)
 }
 
-/// Puts a function behind a text.
+/// Adds a function to a text.
 fn push_function(
     alloc: Global,
     printed: &mut String,
@@ -85,7 +85,7 @@ fn push_function(
     Ok(printed.push(')')?)
 }
 
-/// Puts forms behind a text, each list closed behind the last form in it.
+/// Adds forms to a text, each list closed after the last form in it.
 fn push_forms(
     alloc: Global,
     printed: &mut String,
@@ -104,7 +104,7 @@ fn push_forms(
     Ok(())
 }
 
-/// Puts a form behind a text. Its list stays open.
+/// Adds a form to a text. Its list stays open.
 fn push_form(
     alloc: Global,
     printed: &mut String,
@@ -126,7 +126,7 @@ fn push_form(
     }
 }
 
-/// Puts what the kind of a form says beside its word behind a text, each behind a blank.
+/// Adds what the kind of a form says besides its word to a text, each with a blank before it.
 fn push_operands(
     alloc: Global,
     printed: &mut String,
@@ -149,7 +149,7 @@ fn push_operands(
     Ok(push_number(printed, second)?)
 }
 
-/// Puts a value behind a text.
+/// Adds a value to a text.
 fn push_value(
     alloc: Global,
     printed: &mut String,
@@ -162,7 +162,7 @@ fn push_value(
     Ok(printed.push_str(text.as_str())?)
 }
 
-/// Puts a blank behind a text that has something.
+/// Adds a blank to a text that is not empty.
 fn push_blank(printed: &mut String) -> Result<(), AllocError> {
     if printed.is_empty() {
         Ok(())
@@ -171,7 +171,7 @@ fn push_blank(printed: &mut String) -> Result<(), AllocError> {
     }
 }
 
-/// Puts a number behind a text, if there is one.
+/// Adds a number to a text, if there is one.
 fn push_number(printed: &mut String, number: Option<u32>) -> Result<(), AllocError> {
     match number {
         Some(number) => write!(printed, " {number}"),
@@ -179,7 +179,7 @@ fn push_number(printed: &mut String, number: Option<u32>) -> Result<(), AllocErr
     }
 }
 
-/// Puts a place behind a text, if it is wanted.
+/// Adds a place to a text, if places are written.
 fn push_place(printed: &mut String, place: Place, with_places: bool) -> Result<(), AllocError> {
     if with_places {
         let at = place.0;

@@ -1,4 +1,4 @@
-//! What is told of a kind of core form: a word, and the names, values and numbers in it.
+//! What the tests write for a kind of core form: a word, and the names, values and numbers in it.
 use lisp_base::condition::{Class, Condition};
 use lisp_base::id::{FunctionName, Place, SymbolId};
 use lisp_base::value::{Node, Value};
@@ -130,12 +130,12 @@ fn service_word(service: Service) -> &'static str {
     }
 }
 
-/// A word behind a blank where it is written.
+/// A word with a blank before it, where it is written.
 fn written(word: &'static str, is_written: bool) -> &'static str {
     if is_written { word } else { "" }
 }
 
-/// The keywords that are written in a form, each behind a blank. How many waiters are notified is told as `count`.
+/// The keywords that are written in a form, each with a blank before it. The number of waiters to be notified is written as `count`.
 pub fn keys(node: &FormNode) -> [&'static str; 2] {
     match node.kind {
         CoreKind::Serve(service) => service_keys(service),
@@ -147,7 +147,7 @@ pub fn keys(node: &FormNode) -> [&'static str; 2] {
     }
 }
 
-/// The same of a function.
+/// The keywords that are written in a call of a function, each with a blank before it.
 fn service_keys(service: Service) -> [&'static str; 2] {
     match service {
         Service::MakeThread { name, arguments } => [

@@ -1,4 +1,4 @@
-//! Tests of the reader and of the expander, as tables of texts. They stand apart from `library_tests` so that two processors can check the tests.
+//! Tests of the reader and of the expander, as tables of texts. They stand apart from `library_tests`, so that two processors can check the tests.
 #![tactic(auto)]
 
 #[cfg(test)]

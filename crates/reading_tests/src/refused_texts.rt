@@ -59,7 +59,7 @@ a ‹f0 9f 98 c3 a9› => refusal 1 at 2
     )
 }
 
-// The first and the last character of each length, and those beside the surrogates.
+// The first and the last character of each length in bytes, and those next to the surrogates.
 #[test]
 fn characters_of_each_length_are_read(rt: HostRuntime) -> Result<(), Fail> {
     check(
@@ -157,7 +157,7 @@ fn texts_have_1048576_bytes_at_most(rt: HostRuntime) -> Result<(), Fail> {
     check_text(&rt, alloc, text.as_slice(), "1 A")?;
     text.push(b'\n')?;
     check_text(&rt, alloc, text.as_slice(), "refusal 7 at 1048576")?;
-    // the length comes before the bytes of no character
+    // the length is judged before the bytes of no character
     let bytes = vec![in alloc; 0xff; 1_048_577]?;
     check_text(&rt, alloc, bytes.as_slice(), "refusal 7 at 1048576")
 }

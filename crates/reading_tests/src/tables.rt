@@ -18,27 +18,27 @@ pub struct Tables {
     pub texts: Texts,
 }
 
-/// What is told of a text that is read. Of a refusal its number and place are told.
+/// What is compared of a text that is read. Of a text that is refused it is the number and the place.
 #[derive(Clone, Copy)]
 pub enum Told {
     /// The data, as `Tables::printed` gives them.
     Data,
     /// How many nodes there are.
     Count,
-    /// The same, and behind it the names and the literals that the tables then hold.
+    /// How many nodes there are, and after that the names and the literals that the tables then hold.
     Kept,
-    /// Each node with the numbers in it and its place, and behind them the names and the literals.
+    /// Each node with the numbers in it and its place, and after them the names and the literals.
     Kinds,
     /// The forms that the data expand to, each with its place.
     Places,
-    /// The same without places.
+    /// The forms that the data expand to, without places.
     Forms,
     /// Whether the data are a program.
     Verdict,
 }
 
 impl Tables {
-    /// Just the five first symbols.
+    /// The first five symbols alone.
     pub fn new(alloc: Global) -> Result<Self, Memory> {
         let symbols = Symbols::new(alloc)?;
         let texts = Texts::new(alloc)?;
@@ -80,7 +80,7 @@ impl Tables {
         Ok(printed)
     }
 
-    /// What is told of data, without the names and the literals.
+    /// What is compared of data, without the names and the literals.
     fn told(&self, alloc: Global, data: &[Datum], told: Told) -> Result<String, Fail> {
         match told {
             Told::Data => Ok(self.printed(alloc, data)?),
@@ -92,7 +92,7 @@ impl Tables {
         }
     }
 
-    /// The names behind the five first, in the order of their numbers, each behind a blank.
+    /// The names after the first five, in the order of their numbers, each with a blank before it.
     fn names(&self, alloc: Global) -> Result<String, AllocError> {
         let mut names = String::new(alloc);
         for number in 5..NAMES {
@@ -104,7 +104,7 @@ impl Tables {
         Ok(names)
     }
 
-    /// The string literals, in the order of their numbers, each behind a blank.
+    /// The string literals, in the order of their numbers, each with a blank before it.
     fn literals(&self, alloc: Global) -> Result<String, AllocError> {
         let mut literals = String::new(alloc);
         for number in 0..NAMES {
@@ -116,7 +116,7 @@ impl Tables {
         Ok(literals)
     }
 
-    /// Puts what a node says behind a text. A list stays open.
+    /// Adds what a node says to a text. A list stays open.
     fn print_node(&self, printed: &mut String, node: &DatumNode) -> Result<(), AllocError> {
         match node.kind {
             DatumKind::List(_) => printed.push('('),
@@ -132,7 +132,7 @@ impl Tables {
         }
     }
 
-    /// Puts a datum behind a text: each node with its place, and a list closed behind its last.
+    /// Adds a datum to a text: each node with its place, and a list closed after its last item.
     fn print_datum(
         &self,
         printed: &mut String,

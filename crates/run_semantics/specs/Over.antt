@@ -9,7 +9,7 @@ use Rattle.thread_semantics.specs.declared.next.Next.TheVariants.{Local, Operati
 use Rattle.thread_semantics.specs.Step.{next_of}
 use Rattle.run_semantics.specs.Replay.{Configuration}
 
--- a local point can always be taken, an operation where it does not wait
+-- a local point can always be taken, and an operation where it does not wait
 abbrev pub goes_on : Next → ℕ → World → Bool
 goes_on Local t w = true
 goes_on (Operation op) t w = is_some (reply_of (effect_of op (Thread t) w))

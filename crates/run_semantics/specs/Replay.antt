@@ -16,24 +16,24 @@ pub record Configuration : Type 0 where
   pub threads : List ThreadState
   pub runner : ℕ
 
--- main alone, before its first point
+-- main is the only thread, before its first point
 abbrev pub first_configuration : PlainProgram → Configuration
 first_configuration p = record { world = first_world p.specials; threads = first_state p.forms ∷ []; runner = 0 }
 
--- The entry is the next operation of a thread that has come to it: points are left, the operation is the
--- entry's point, and the effect gives just the entry's reply.
+-- The entry is the next operation of a thread that has come to it: the thread has points left, the entry has the number
+-- of the next point, and the effect gives just the entry's reply.
 pub record MayDo (limit : ℕ) (s : ThreadState) (w : World) (e : Entry) : Type 0 where
   pub operation : next_of s ≡ Operation e.op
   pub left : s.points < limit
   pub point : e.point ≡ suc s.points
   pub answer : reply_of (effect_of e.op e.actor w) ≡ Some e.reply
 
--- a thread that was made takes local points alone until it comes to the entry's operation
+-- a thread that was made comes to the entry's operation by local points alone
 abbrev pub ThreadMayDo : ℕ → Option ThreadState → World → Entry → Type 0
 ThreadMayDo limit None w e = ⊥
 ThreadMayDo limit (Some s) w e = MayDo limit (closed limit s) w e
 
--- the entry may come next; no operation of the runner exists yet
+-- the entry may come next; the runner has no operation yet
 abbrev pub IsLegalBy : Actor → ℕ → Configuration → Entry → Type 0
 IsLegalBy (Thread t) limit c e = ThreadMayDo limit (slice_get c.threads t) c.world e
 IsLegalBy Runner limit c e = ⊥

@@ -22,7 +22,7 @@ phase_shown (At points values) limit taken = unless_out limit taken
 phase_shown (Exit target) limit taken = unless_out limit taken
 phase_shown Ended limit taken = IsEnded
 
--- the word for a kind of frame
+-- the word for a kind of frame in the report
 abbrev pub word_for : FrameKind → FrameWord
 word_for (BindFrame bindings) = Bind
 
@@ -31,12 +31,12 @@ abbrev pub open_forms : List Frame → List OpenForm
 open_forms [] = []
 open_forms (f ∷ fs) = (record { kind = word_for f.kind; place = f.place }) ∷ open_forms fs
 
--- what a thread shows of itself
+-- what the state of a thread shows
 abbrev pub thread_report : ℕ → ThreadState → ThreadReport
 thread_report limit s = record { phase = phase_shown s.control limit s.points; points = s.points; frames = open_forms s.frames }
 
--- A line for each thread, by number, with the phase that all see. Each name is kept as NIL, since main alone
--- is there.
+-- A line for each thread, by number, with the phase that all threads see. Each name is kept as NIL, since main is the
+-- only thread.
 abbrev pub thread_lines : ℕ → List Phase → List ThreadState → List ThreadLine
 thread_lines limit phases [] = []
 thread_lines limit [] (s ∷ ss) = []

@@ -28,7 +28,7 @@ use Rattle.run_semantics.specs.declared.report.Report.{Report}
 abbrev pub main_does : ℕ → ℕ → Op → Reply → Entry
 main_does ticket point op reply = record { ticket = ticket; actor = Thread 0; point = point; op = op; reply = reply }
 
--- main alone, ended after so many points
+-- main is the only thread, and ended after so many points
 abbrev pub main_ended : ℕ → Ending → List Global → Report
 main_ended points ending globals = record {
   threads = (record { name = nil; phase = Ended ending; machine = record { phase = IsEnded; points = points; frames = [] } }) ∷ [];
@@ -36,7 +36,7 @@ main_ended points ending globals = record {
   status = 0;
 }
 
--- main alone, out of points with these forms open
+-- main is the only thread, and out of points with these forms open
 abbrev pub main_out : ℕ → List OpenForm → List Global → Report
 main_out points frames globals = record {
   threads = (record { name = nil; phase = Alive; machine = record { phase = OutOfPoints; points = points; frames = frames } }) ∷ [];
@@ -86,7 +86,7 @@ outer_setq = record {
   specials = 5 ∷ 6 ∷ [];
 }
 
--- the assignment inside the inner form is seen in the outer one, and not globally
+-- the assignment inside the inner `let` is seen in the outer one, and not globally
 abbrev pub outer_setq_journal : List Entry
 outer_setq_journal =
     main_does 1 1 (Boundp 5) (Truth false)

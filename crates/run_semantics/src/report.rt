@@ -4,12 +4,12 @@ use lisp_base::value::Value;
 use world_semantics::global::Global;
 use world_semantics::phase::Phase;
 
-/// Where a thread stands, as it shows by itself.
+/// Whether a thread has ended, is out of points or can go on, as its own state shows.
 #[derive(Clone, Copy, Debug, PartialEq, Eq)]
 pub enum PhaseReport {
     /// It has ended.
     Ended,
-    /// It has not ended, and no points are left to it.
+    /// It has not ended, and it has no points left.
     OutOfPoints,
     /// It can go on.
     Runnable,
@@ -28,7 +28,7 @@ pub struct OpenForm {
     pub place: Place,
 }
 
-/// What a thread shows of itself: where it stands, how many points it took, and its open forms, innermost first.
+/// What the state of a thread shows: its phase, how many points it took, and its open forms, innermost first.
 #[derive(Debug, Drop)]
 pub struct ThreadReport {
     pub phase: PhaseReport,
@@ -39,7 +39,7 @@ pub struct ThreadReport {
 /// What the report says of one thread.
 #[derive(Debug, Drop)]
 pub struct ThreadLine {
-    /// Its name, a string or NIL. That of main is kept as NIL.
+    /// Its name, a string or NIL. The name of main is kept as NIL.
     pub name: Value,
     pub phase: Phase,
     pub machine: ThreadReport,

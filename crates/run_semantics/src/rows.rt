@@ -21,7 +21,7 @@ pub fn outer_setq_survives()
     ensures { RunsAs 100000 outer_setq outer_setq_journal (main_ended 22 (Returned (Int (pos 0))) (has_value 5 (Int (pos 0)) ∷ has_value 6 (Int (pos 0)) ∷ [])) }
 {}
 
-/// A sum past the range leaves its `let`, one frame a point, and aborts the thread.
+/// A sum out of range leaves its `let`, one frame at each point, and aborts the thread.
 pub fn a_sum_past_the_range()
     ensures { RunsAs 100000 sum_past_range sum_past_range_journal (main_ended 15 (Aborted (Some (record { class = IntegerRange; text = None }))) (has_value 5 (Int (pos 999999999999999999)) ∷ [])) }
 {}
@@ -31,7 +31,7 @@ pub fn out_of_points_in_a_let()
     ensures { RunsAs 12 sum_past_range sum_past_range_start (main_out 12 (open_let ∷ []) (has_value 5 (Int (pos 999999999999999999)) ∷ [])) }
 {}
 
-/// Where they run out after the sum signalled and before the exit leaves the `let`, it is still open.
+/// Where the points run out after the sum signalled and before the exit leaves the `let`, the report has it open too.
 pub fn out_of_points_in_an_exit()
     ensures { RunsAs 13 sum_past_range sum_past_range_start (main_out 13 (open_let ∷ []) (has_value 5 (Int (pos 999999999999999999)) ∷ [])) }
 {}

@@ -22,14 +22,14 @@ pub record IsKnown (old new : List (List ℕ)) (name : List ℕ) (id : ℕ) : Ty
   pub found : slice_get old id ≡ Some name
   pub same : new ≡ old
 
--- a name was not there, and comes behind the others
+-- a name was not there, and comes after the others
 pub record IsAdded (old new : List (List ℕ)) (name : List ℕ) (id : ℕ) : Type 0 where
   pub unknown : ¬ Contains old name
   pub next : id ≡ length old
   pub room : length old < NAMES
   pub added : new ≡ old ++ name ∷ []
 
--- a name was not there, and no other may come
+-- a name was not there, and the table is full
 pub record IsFull (old new : List (List ℕ)) (name : List ℕ) : Type 0 where
   pub unknown : ¬ Contains old name
   pub full : length old ≡ NAMES
@@ -41,7 +41,7 @@ pub record IsShort (old new : List (List ℕ)) (name : List ℕ) : Type 0 where
   pub room : length old < NAMES
   pub same : new ≡ old
 
--- interning a name takes the old names to the new ones, by what it answers
+-- what interning a name makes of the old names, by what it returns
 abbrev pub Interns : List (List ℕ) → List (List ℕ) → List ℕ → Result ℕ InternError → Type 0
 Interns old new name (Ok id) = IsKnown old new name id ⊎ IsAdded old new name id
 Interns old new name (Err TooMany) = IsFull old new name

@@ -4,7 +4,7 @@ ghost use Rattle.symbol_table.specs.declared.error.InternError.TheVariants.{Memo
 use lisp_base::memory::Memory;
 use thiserror::Error;
 
-/// Why a name gets no number. The names stay as they were.
+/// Why a name gets no number. The table of names is as it was.
 #[derive(Clone, Copy, Debug, PartialEq, Eq, Error)]
 pub enum InternError {
     /// The name is new, and there are as many names as there may be.

@@ -8,7 +8,7 @@ use lisp_base::memory::Memory;
 use std::alloc::Global;
 use std::marker::Model;
 
-/// The names of the symbols, in the order of their numbers. No two are the same.
+/// The names of the symbols, in the order of their numbers. All are different.
 #[derive(Debug, Drop)]
 pub struct Symbols {
     table: Table,
@@ -22,7 +22,7 @@ impl Model for Symbols {
     ghost view = { λ s. s.table };
 }
 
-/// Puts the five first names into a table without names.
+/// Puts the first five names into a table without names.
 fn push_first(table: &mut Table) -> Result<(), Memory>
     requires { table.old ≡ [] }
     ensures { OnOk result (table.new ≡ first_symbols) }

@@ -8,7 +8,7 @@ use lisp_base::memory::Memory;
 use std::alloc::Global;
 use std::marker::Model;
 
-/// Names in the order of their numbers, from 0. No two are the same.
+/// Names in the order of their numbers, from 0. All are different.
 #[derive(Debug, Drop)]
 pub struct Table {
     names: IndexSet<String>,
@@ -53,7 +53,7 @@ impl Table {
         self.names.len() as u32
     }
 
-    /// Puts a new name behind the others, and gives its number. After want of memory the names are as they were.
+    /// Puts a new name after the others, and gives its number. Where memory runs out the names are as they were.
     pub fn push(&mut self, name: &str) -> Result<u32, Memory>
         requires new { ¬ Contains self.old name.now }
         requires room { length self.old < NAMES }
@@ -68,7 +68,7 @@ impl Table {
         Ok(number)
     }
 
-    /// The number of a name, which is put behind the others where it is new.
+    /// The number of a name, which is put after the others where it is new.
     pub fn intern(&mut self, name: &str) -> Result<u32, InternError>
         ensures interned { Interns self.old self.new name.now result }
         ensures table { IsTable self.new }
@@ -82,7 +82,7 @@ impl Table {
         Ok(self.push(name)?)
     }
 
-    /// The name with a number: `None` exactly where there are not so many.
+    /// The name with a number: `None` exactly where no name has it.
     pub fn name(&self, number: u32) -> Option<&str>
         ensures name { option_copied result ≡ slice_get self.now number }
         ensures given { IsSome result ↔ (number < length self.now) }

@@ -8,7 +8,7 @@ use lisp_base::memory::Memory;
 use std::alloc::Global;
 use std::marker::Model;
 
-/// The texts of the string literals, in the order of their numbers. No two are the same.
+/// The texts of the string literals, in the order of their numbers. All are different.
 #[derive(Debug, Drop)]
 pub struct Texts {
     table: Table,

@@ -9,12 +9,12 @@ use Rattle.plain_program.specs.declared.act.Act.{Act}
 use Rattle.plain_program.specs.declared.act.Act.TheVariants.{Push, Discard, Add}
 use Rattle.plain_program.specs.Points.{nil}
 
--- the front value
+-- the first value, or NIL where there is none
 abbrev pub top : List Node → Node
 top [] = nil
 top (v ∷ vs) = v
 
--- the number of an integer
+-- the integer that a value is, where it is one
 abbrev pub integer_of : Node → Option ℤ
 integer_of (Int z) = Some z
 integer_of _ = None
@@ -23,7 +23,7 @@ integer_of _ = None
 abbrev pub within_range : ℤ → Result Node Class
 within_range z = if is_integer z then Ok (Int z) else Err IntegerRange
 
--- the sum of two integers; anything else is a wrong kind of argument
+-- the sum of two integers; where one is missing, `type-error` is signalled
 abbrev pub sum_of_integers : Option ℤ → Option ℤ → Result Node Class
 sum_of_integers None b = Err TypeError
 sum_of_integers (Some x) None = Err TypeError
@@ -32,7 +32,7 @@ sum_of_integers (Some x) (Some y) = within_range (x +ℤ y)
 abbrev pub sum_of : Node → Node → Result Node Class
 sum_of a b = sum_of_integers (integer_of a) (integer_of b)
 
--- a value in front of the others, where there is one
+-- a value before the others, where there is one
 abbrev pub put_in_front : Result Node Class → List Node → Result (List Node) Class
 put_in_front (Ok v) vs = Ok (v ∷ vs)
 put_in_front (Err class) vs = Err class

@@ -6,29 +6,29 @@ use Rattle.environment_semantics.specs.Environment.{Binding}
 use Rattle.plain_program.specs.Forms.{PlainForms}
 use Rattle.plain_program.specs.Points.{Points, main_points}
 
--- the kinds of frames, which are the contexts that an exit passes: a binding, with the map at its entry
+-- the kinds of frames, which an exit leaves one by one: a binding, with the map at its entry
 pub data FrameKind : Type 0 where
   BindFrame : (bindings : List Binding) → FrameKind
 
--- An open form: its kind and place, what goes on when it is left with values, and the values that wait for that.
+-- An open form: its kind and place, the points that go on when it is left with a value, and the values that wait for these.
 pub record Frame : Type 0 where
   pub kind : FrameKind
   pub place : ℕ
   pub after : Points
   pub values : List Node
 
--- where an exit leads: to the thread's base, which is to end as told
+-- where an exit leads: to the thread's base, where the thread ends in this way
 pub data Target : Type 0 where
   Base : (ending : Ending) → Target
 
--- A thread rests before a point: about to take the first of these points, with the values that wait for them, front
--- first; leaving to a target, one frame a point; or ended.
+-- What a thread is about to do: to take the first of these points, with the values that wait for them, the newest
+-- first; to leave to a target, one frame at each point; or nothing, since it has ended.
 pub data Control : Type 0 where
   At : (points : Points) (values : List Node) → Control
   Exit : (target : Target) → Control
   Ended : Control
 
--- the dynamic environment of a thread: which place each special variable names that it has bound
+-- the dynamic environment of a thread: the place that each special variable names which it has bound
 pub record Environment : Type 0 where
   pub bindings : List Binding
 

@@ -1,4 +1,4 @@
--- What a thread does next, and the state that this leaves.
+-- What a thread does next, and its state after that.
 use Rattle.std.specs.Prelude.{ℕ, zero, suc, ◌+◌, ◌-◌, List, [], ◌∷◌, Option, Some, None, Result, Ok, Err, Bool, true, false, ◌&&◌, nat_lt, unwrap_or, slice_get, length, take, drop}
 use Rattle.lisp_base.specs.declared.condition.Class.{Class}
 use Rattle.lisp_base.specs.declared.condition.Class.TheVariants.{UnboundVariable, StorageCondition}
@@ -45,11 +45,11 @@ ask_step EndThread after vs s = s
 abbrev pub has_room : ThreadState → Bool
 has_room s = nat_lt (length s.frames) 4096 && nat_lt (length s.environment.bindings) 4096
 
--- the value that has so many others in front
+-- the value that has so many others before it
 abbrev pub value_behind : ℕ → List Node → Node
 value_behind above vs = unwrap_or (slice_get vs above) nil
 
--- A variable is bound to its value. The values in front of that go into the body, and those behind it wait with the frame,
+-- A variable is bound to its value. The values before that one go into the body, and those after it wait with the frame,
 -- which holds the map at its entry.
 abbrev pub opened : Opening → ℕ → Points → Points → List Node → ThreadState → ThreadState
 opened (Bind symbol above) place body after vs s =
@@ -60,21 +60,21 @@ opened (Bind symbol above) place body after vs s =
       store = (bound symbol (value_behind above vs) s.environment.bindings s.store).1;
     }
 
--- without room nothing is opened, and `storage-condition` is signalled
+-- where there is no room, nothing is opened, and `storage-condition` is signalled
 abbrev pub enter_step : Bool → Opening → ℕ → Points → Points → List Node → ThreadState → ThreadState
 enter_step true opening place body after vs s = opened opening place body after vs s
 enter_step false opening place body after vs s = signal (record { class = StorageCondition; text = None }) s
 
--- a frame that is popped puts back what it holds
+-- a frame that is left puts back the map that it holds
 abbrev pub put_back : FrameKind → ThreadState → ThreadState
 put_back (BindFrame bindings) s = record s { environment = record s.environment { bindings = bindings } }
 
--- the innermost frame is left with the front value, which goes to the points that waited
+-- the innermost frame is left with the first value, which goes to the points that waited
 abbrev pub leave_step : List Frame → List Node → ThreadState → ThreadState
 leave_step [] vs s = s
 leave_step (f ∷ fs) vs s = put_back f.kind (record s { control = At f.after (top vs ∷ f.values); frames = fs })
 
--- an exit pops the innermost frame
+-- an exit leaves the innermost frame
 abbrev pub pop_step : List Frame → ThreadState → ThreadState
 pop_step [] s = s
 pop_step (f ∷ fs) s = put_back f.kind (record s { frames = fs })
@@ -96,12 +96,12 @@ step_by Ended s = s
 abbrev pub local_step_of : ThreadState → ThreadState
 local_step_of s = step_by s.control (record s { points = suc s.points })
 
--- a local point where the variable is bound in this thread, else an operation
+-- where the variable is bound in this thread a local point, else an operation
 abbrev pub unless_bound : Option ℕ → Op → Next
 unless_bound None op = Operation op
 unless_bound (Some place) op = Local
 
--- what a question is: an operation, or for a bound variable a local point
+-- what comes next at a question: an operation, or for a bound variable a local point
 abbrev pub asked : Question → List Node → List Binding → Next
 asked AskPrint vs bindings = Operation (Out (Print (top vs)))
 asked (Read symbol) vs bindings = unless_bound (place_of symbol bindings) (Get symbol)
@@ -109,7 +109,7 @@ asked (Write symbol) vs bindings = unless_bound (place_of symbol bindings) (Set 
 asked (Define symbol) vs bindings = Operation (Set symbol (top vs))
 asked EndThread vs bindings = Operation (Finish (Returned (top vs)))
 
--- where a stretch is done its frame is left, if it is in one
+-- what comes next where a stretch is done: its frame is left, if it is in one
 abbrev pub next_of_end : List Frame → Next
 next_of_end [] = Nothing
 next_of_end (f ∷ fs) = Local
@@ -121,7 +121,7 @@ next_in (Ask question place after) vs fs bindings = asked question vs bindings
 next_in (Test symbol place value after) vs fs bindings = Operation (Boundp symbol)
 next_in (Enter opening place body after) vs fs bindings = Local
 
--- an exit pops a frame; with none left the thread finishes
+-- an exit leaves a frame; where none is left the thread finishes
 abbrev pub next_of_exit : Target → List Frame → Next
 next_of_exit (Base ending) [] = Operation (Finish ending)
 next_of_exit (Base ending) (f ∷ fs) = Local
@@ -135,7 +135,7 @@ next_by Ended fs bindings = Nothing
 abbrev pub next_of : ThreadState → Next
 next_of s = next_by s.control s.frames s.environment.bindings
 
--- a global value that was read goes in front; without one `unbound-variable` is signalled
+-- a global value that was read comes before the other values; where there is none, `unbound-variable` is signalled
 abbrev pub read_reply : Reply → Points → List Node → ThreadState → ThreadState
 read_reply (Value v) after vs s = record s { control = At after (v ∷ vs) }
 read_reply Unbound after vs s = signal (record { class = UnboundVariable; text = None }) s
@@ -150,7 +150,7 @@ question_reply (Write symbol) reply after vs s = record s { control = At after v
 question_reply (Define symbol) reply after vs s = record s { control = At after (Symbol symbol ∷ drop 1 vs) }
 question_reply EndThread reply after vs s = record s { control = Ended }
 
--- where the variable of a `defvar` has a value its symbol is given, else its value comes next
+-- where the variable of a `defvar` has a value, the symbol is given, else the points of its value come next
 abbrev pub test_reply : Reply → ℕ → Points → Points → List Node → ThreadState → ThreadState
 test_reply (Truth true) symbol value after vs s = record s { control = At after (Symbol symbol ∷ vs) }
 test_reply (Truth false) symbol value after vs s = record s { control = At (joined value after) vs }

@@ -1,4 +1,4 @@
-//! What one thread does next, and the state that it is in afterwards.
+//! What one thread does next, and its state after that.
 #![tactic(auto)]
 
 pub mod next;

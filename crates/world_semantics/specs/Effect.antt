@@ -12,12 +12,12 @@ use Rattle.world_semantics.specs.declared.phase.Phase.{Phase}
 use Rattle.world_semantics.specs.declared.phase.Phase.TheVariants.{Alive, Ended}
 use Rattle.world_semantics.specs.World.{World, global_of, with_global}
 
--- an operation answers and leaves a world, or it waits and changes nothing
+-- an operation has a reply and a world after it, or it waits and changes nothing
 pub data Outcome : Type 0 where
   Answers : (reply : Reply) (after : World) → Outcome
   Waits : Outcome
 
--- only a thread that is alive ends
+-- the phases after thread t has ended so; only a thread that is alive ends
 abbrev pub ended_from : Option Phase → ℕ → Ending → List Phase → List Phase
 ended_from None t ending phases = phases
 ended_from (Some Alive) t ending phases = slice_set phases t (Ended ending)
@@ -35,13 +35,13 @@ value_reply (Some v) = Value v
 
 -- the effect of an operation
 abbrev pub effect_of : Op → Actor → World → Outcome
--- `get` answers the global value, or that there is none
+-- `get` gives the global value, or says that there is none
 effect_of (Get s) by w = Answers (value_reply (global_of s w.globals)) w
 -- `set` writes the global value
 effect_of (Set s v) by w = Answers Okay (record w { globals = with_global s v w.globals })
 -- `boundp` says whether there is a global value
 effect_of (Boundp s) by w = Answers (Truth (is_some (global_of s w.globals))) w
--- `out` puts what is printed behind the output
+-- `out` adds what is printed to the end of the output
 effect_of (Out printed) by w = Answers Okay (record w { output = w.output ++ printed ∷ [] })
 -- `finish` ends the thread that does it
 effect_of (Finish ending) by w = Answers Okay (record w { phases = phases_after by ending w.phases })
@@ -51,7 +51,7 @@ abbrev pub reply_of : Outcome → Option Reply
 reply_of (Answers reply after) = Some reply
 reply_of Waits = None
 
--- the world afterwards; where an operation waits it is the world before
+-- the world after an operation; where it waits, the world before it
 abbrev pub world_after : Outcome → World → World
 world_after (Answers reply after) before = after
 world_after Waits before = before

@@ -18,7 +18,7 @@ abbrev pub unbound_all : List ℕ → List Global
 unbound_all [] = []
 unbound_all (s ∷ specials) = (record { symbol = s; value = None }) ∷ unbound_all specials
 
--- no special variable has a value, main alone is there and alive, and nothing is printed
+-- no special variable has a value, main is the only thread and alive, and nothing is printed
 abbrev pub first_world : List ℕ → World
 first_world specials = record { globals = unbound_all specials; phases = Alive ∷ []; output = [] }
 

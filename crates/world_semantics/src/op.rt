@@ -18,13 +18,13 @@ pub enum Op {
     Set(SymbolId, Value),
     /// `boundp`: whether a special variable has a global value.
     Boundp(SymbolId),
-    /// `out`: prints.
+    /// `out`: adds characters to the output.
     Out(Printed),
     /// `finish`: ends the thread that does it.
     Finish(Ending),
 }
 
-/// What an operation answers.
+/// The reply to an operation.
 #[derive(Clone, Copy, Debug, PartialEq, Eq)]
 pub enum Reply {
     /// `ok`: it is done, and there is nothing more to say.
@@ -33,6 +33,6 @@ pub enum Reply {
     Value(Value),
     /// `unbound`: there is no value.
     Unbound,
-    /// `T` or `NIL`: what was asked holds, or does not.
+    /// `T` or `NIL`: whether what was asked holds.
     Truth(bool),
 }

@@ -10,7 +10,7 @@ pub enum Ending {
     Aborted(Option<Condition>),
 }
 
-/// Where a thread stands, as all threads see it.
+/// Whether a thread is alive or how it ended, as all threads see it.
 #[derive(Clone, Copy, Debug, PartialEq, Eq)]
 pub enum Phase {
     Alive,

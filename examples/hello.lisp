@@ -1,0 +1,2 @@
+; what `print` prints stands in the journal
+(print "Hello, world!")
