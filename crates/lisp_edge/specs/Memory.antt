@@ -37,7 +37,7 @@ abbrev pub read_unless : Bool → List ℕ → ℕ → ReadAnswer
 read_unless true left room = read.Failed
 read_unless false left room = answer_with left room
 
--- the answer of the next read into a buffer of this length, which takes at most a piece
+-- the answer of the next read, of at most a piece, into a buffer of this length
 abbrev pub read_answer : Reading → ℕ → ReadAnswer
 read_answer source room = read_unless (is_failing source.failing source.calls) source.left (min source.piece room)
 
