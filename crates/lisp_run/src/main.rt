@@ -6,7 +6,7 @@ use lisp_edge::clock::VirtualClock;
 use lisp_edge::gate::OpenGate;
 use lisp_edge::standard::{StdSink, StdSource};
 use lisp_session::top::run_top;
-use std::env;
+use std::env::{self, FillError};
 use std::io::ErrorKind;
 use std::process::ExitCode;
 use std::rt::Env;
@@ -17,13 +17,36 @@ const NO_TEXT: &str = "\u{fffd}";
 /// The status where the words find no memory.
 const NO_MEMORY: u8 = 7;
 
-/// The words of the command line, without the program's name. Where one of them is no UTF-8, a single word stands for
-/// all, which is no accepted list either.
+/// The environment of a process, whose arguments are the words alone: those after the program's name.
+#[derive(Drop)]
+struct AfterName<'a, R> {
+    process: &'a R,
+}
+
+impl<R: Env> Env for AfterName<'_, R> {
+    fn arg(&self, i: usize, buf: &mut [u8]) -> Result<usize, FillError> {
+        match i.checked_add(1) {
+            Some(position) => self.process.arg(position, buf),
+            None => Err(FillError::NotPresent),
+        }
+    }
+
+    fn var(&self, name: &str, buf: &mut [u8]) -> Result<usize, FillError> {
+        self.process.var(name, buf)
+    }
+
+    fn var_at(&self, i: usize, buf: &mut [u8]) -> Result<usize, FillError> {
+        self.process.var_at(i, buf)
+    }
+}
+
+/// The words of the command line. Where one of them is not UTF-8, a single word stands for all, which is no accepted list
+/// either.
 fn words<R: Env + AllocGlobal>(rt: &R) -> Result<Vec<String>, Memory> {
     let mut words = Vec::new(rt.alloc());
-    match env::args(rt) {
+    match env::args(&(AfterName { process: rt }, rt.alloc())) {
         Ok(all) => {
-            for word in all.skip(1) {
+            for word in all {
                 words.push(word)?;
             }
         }
