@@ -1,15 +1,10 @@
--- The stack of bindings, as contracts see it.
+-- The bindings in force as contracts see them: a list with the innermost first.
 use Rattle.std.specs.Prelude.{ℕ, ◌==◌, List, [], ◌∷◌, length, Option, Some, None, if◌then◌else◌, nat_lt}
 
 -- a binding of a symbol, which has this number, and the word that it holds
 pub record Bound : Type 0 where
   pub symbol : ℕ
   pub word : ℕ
-
--- the bindings in force, innermost first, and how many symbols there are
-pub record Stack : Type 0 where
-  pub bindings : List Bound
-  pub symbols : ℕ
 
 -- the word of the innermost binding of a symbol, where it is bound
 abbrev pub word_of : ℕ → List Bound → Option ℕ

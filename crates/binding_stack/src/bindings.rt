@@ -1,4 +1,4 @@
-ghost use Rattle.std.specs.Prelude.{◌≡◌, ◌↔◌, ◌<◌, ◌≤◌, [], ◌∷◌, length, IfOk, OnOk, OnErr, IsOk, IsSome, IsTrue, IsFalse};
+ghost use Rattle.std.specs.Prelude.{◌≡◌, ◌↔◌, ◌<◌, ◌≤◌, [], length, IfOk, OnOk, OnErr, IsOk, IsSome, IsTrue, IsFalse};
 ghost use Rattle.binding_stack.specs.Stack.{word_of, with_word, with_binding, kept};
 ghost use Rattle.binding_stack.specs.Entries.{IsLast};
 
@@ -25,36 +25,36 @@ struct Entry {
 #[derive(Debug, Drop)]
 pub struct BindingStack {
     entries: Vec<Entry>,
-    symbols: u32,
 }
 
 impl Model for BindingStack {
-    ghost use Rattle.binding_stack.specs.Stack.{Stack};
+    ghost use Rattle.std.specs.Prelude.{List};
+    ghost use Rattle.binding_stack.specs.Stack.{Bound};
 
-    ghost Value = { Stack };
+    ghost Value = { List Bound };
 
     ghost use Rattle.std.specs.Prelude.{[], length, ◌≤◌, vec_capacity};
     ghost use Rattle.binding_stack.specs.Entries.{stacked};
     ghost use Rattle.binding_stack.specs.declared.bindings.TheConstants.{BINDINGS};
 
-    ghost view = { λ s. record { bindings = stacked [] s.entries.items; symbols = s.symbols } };
+    ghost view = { λ s. stacked [] s.entries.items };
 
     ghost invariant = { λ s. (length s.entries.items ≤ BINDINGS) × (BINDINGS ≤ vec_capacity s.entries) };
 }
 
 impl BindingStack {
-    /// No bindings, of so many symbols. All memory is taken here.
-    pub fn new(alloc: Global, symbols: u32) -> Result<BindingStack, Memory>
-        ensures { IfOk result (λ s. s ≡ record { bindings = []; symbols = symbols }) }
+    /// No bindings. All memory is taken here.
+    pub fn new(alloc: Global) -> Result<BindingStack, Memory>
+        ensures { IfOk result (λ s. s ≡ []) }
     {
         let entries = Vec::with_capacity(alloc, BINDINGS as usize)?;
-        Ok(BindingStack { entries, symbols })
+        Ok(BindingStack { entries })
     }
 
     /// How many bindings there are.
     #[tactic(auto, using(crate::proofs::Entries::length_stacked))]
     pub fn height(&self) -> u32
-        ensures count { result ≡ length self.now.bindings }
+        ensures count { result ≡ length self.now }
         ensures limit { result ≤ BINDINGS }
     {
         self.entries.len() as u32
@@ -64,12 +64,10 @@ impl BindingStack {
     /// are as many as there may be.
     #[tactic(auto, using(crate::proofs::Entries::length_stacked, crate::proofs::Entries::stacked_push))]
     pub fn bind(&mut self, symbol: SymbolId, word: u64) -> Result<(), Full>
-        requires { symbol < self.old.symbols }
-        ensures room { IsOk result ↔ (length self.old.bindings < BINDINGS) }
-        ensures ok { OnOk result (self.new ≡ record self.old { bindings = with_binding symbol word self.old.bindings }) }
+        ensures room { IsOk result ↔ (length self.old < BINDINGS) }
+        ensures ok { OnOk result (self.new ≡ with_binding symbol word self.old) }
         ensures full { OnErr result (self.new ≡ self.old) }
     {
-        prove!(symbol.0 < self.symbols);
         if self.height() == BINDINGS {
             return Err(Full);
         }
@@ -80,8 +78,8 @@ impl BindingStack {
     /// Takes the innermost bindings away, down to so many.
     #[tactic(auto, using(crate::proofs::Entries::kept_stacked, crate::proofs::Entries::length_stacked))]
     pub fn unbind_to(&mut self, height: u32)
-        requires { height ≤ length self.old.bindings }
-        ensures { self.new ≡ record self.old { bindings = kept height self.old.bindings } }
+        requires { height ≤ length self.old }
+        ensures { self.new ≡ kept height self.old }
     {
         self.entries.truncate(height as usize);
     }
@@ -89,7 +87,7 @@ impl BindingStack {
     /// The word of the innermost binding of a symbol: `None` exactly where there is none.
     #[tactic(auto, using(crate::proofs::Entries::word_none, crate::proofs::Entries::word_last))]
     pub fn get(&self, symbol: SymbolId) -> Option<u64>
-        ensures { result ≡ word_of symbol self.now.bindings }
+        ensures { result ≡ word_of symbol self.now }
     {
         let at = last_of(self.entries.as_slice(), symbol)?;
         Some(self.entries[at].word)
@@ -98,8 +96,8 @@ impl BindingStack {
     /// Writes the innermost binding of a symbol: false, and nothing changes, exactly where there is none.
     #[tactic(auto, using(crate::proofs::Entries::writes))]
     pub fn set(&mut self, symbol: SymbolId, word: u64) -> bool
-        ensures bound { IsTrue result ↔ IsSome (word_of symbol self.old.bindings) }
-        ensures written { self.new ≡ record self.old { bindings = with_word symbol word self.old.bindings } }
+        ensures bound { IsTrue result ↔ IsSome (word_of symbol self.old) }
+        ensures written { self.new ≡ with_word symbol word self.old }
         ensures unbound { IsFalse result → self.new ≡ self.old }
     {
         let Some(at) = last_of(self.entries.as_slice(), symbol) else {

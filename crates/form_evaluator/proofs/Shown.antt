@@ -1,5 +1,5 @@
 -- The moves of the evaluator are those of the state that it shows.
-use Rattle.std.proofs.Common.{◌≡◌, ℕ, suc, ◌^◌, List, [], ◌∷◌, ◌++◌, ◌&&◌, Bool, true, false, nat_lt, cond, Some, Result, Ok, Err, length, map, drop, refl, ap, sym, ◌∙◌, append_assoc, ◌==◌, arith}
+use Rattle.std.proofs.Common.{◌≡◌, ℕ, suc, List, [], ◌∷◌, ◌++◌, ◌&&◌, Bool, true, false, nat_lt, cond, Some, Result, Ok, Err, length, map, drop, refl, ap, sym, ◌∙◌, append_assoc, ◌==◌, arith}
 use Rattle.std.proofs.lemmas.List.{length-map}
 use Rattle.std.proofs.lemmas.Bool.Decides.{nat_tests}
 use Rattle.lisp_base.specs.declared.condition.Class.{Class}
@@ -93,7 +93,7 @@ module _ (s : ThreadState) where
   left_at_end [] vs n = refl
   left_at_end (f ∷ fs) vs n =
       let base : ThreadState = record s { control = At f.after (top vs ∷ f.values); frames = fs; points = suc s.points } in
-      ap (λ bs. record (shown_of base) { bindings = record { bindings = bs; symbols = 2 ^ 31 } }) (kept_shown s.environment.bindings f fs n)
+      ap (λ bs. record (shown_of base) { bindings = bs }) (kept_shown s.environment.bindings f fs n)
       ∙ ap shown_of (sym (put_back_held f.kind base))
 
   popped_in_exit : (ending : Ending) (fs : List Frame) → Nested s.environment.bindings fs
@@ -101,7 +101,7 @@ module _ (s : ThreadState) where
   popped_in_exit ending [] n = refl
   popped_in_exit ending (f ∷ fs) n =
       let base : ThreadState = record s { control = Exit (Base ending); frames = fs; points = suc s.points } in
-      ap (λ bs. record (shown_of base) { bindings = record { bindings = bs; symbols = 2 ^ 31 } }) (kept_shown s.environment.bindings f fs n)
+      ap (λ bs. record (shown_of base) { bindings = bs }) (kept_shown s.environment.bindings f fs n)
       ∙ ap shown_of (sym (put_back_held f.kind base))
 
   acted_shown : (act : Act) (p : ℕ) (after : Points) (vs : List Node) (r : Result (List Node) Class)

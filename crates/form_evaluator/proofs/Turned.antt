@@ -1,5 +1,5 @@
 -- A turn keeps what a run keeps.
-use Rattle.std.proofs.Common.{◌≡◌, ℕ, zero, suc, ◌+◌, ◌-◌, ◌<◌, ◌≤◌, List, [], ◌∷◌, ◌++◌, Bool, true, false, ◌&&◌, nat_lt, Some, Result, Ok, Err, length, length-append, append-nil, ◌^◌, refl, ap, sym, subst, ◌∙◌, arith}
+use Rattle.std.proofs.Common.{◌≡◌, ℕ, zero, suc, ◌+◌, ◌-◌, ◌<◌, ◌≤◌, List, [], ◌∷◌, ◌++◌, Bool, true, false, ◌&&◌, nat_lt, Some, Result, Ok, Err, length, length-append, append-nil, refl, ap, sym, subst, ◌∙◌, arith}
 use Rattle.std.proofs.lemmas.Bool.Decides.{nat_tests}
 use Rattle.lisp_base.specs.declared.condition.Class.{Class}
 use Rattle.lisp_base.specs.declared.value.Node.{Node}
@@ -31,7 +31,7 @@ use Rattle.run_semantics.specs.Over.{goes_on}
 use Rattle.plain_program.specs.Steps.{steps_of}
 use Rattle.world_semantics.specs.declared.global.Global.{Global}
 use Rattle.world_semantics.specs.World.{unbound_all}
-use Rattle.form_evaluator.specs.Evaluator.{Stands, shown_bindings}
+use Rattle.form_evaluator.specs.Evaluator.{Stands}
 use Rattle.form_evaluator.specs.declared.evaluator.Doing.TheVariants.{Running}
 use Rattle.form_evaluator.specs.Running.{Ran, Stops, AsksFor, phase_by, globals_by, reply_by}
 
@@ -220,9 +220,6 @@ globals_after (Finish ending) w = refl
 pub stands-points : (s : ThreadState) (e : Evaluator) → Stands s e → e.points ≡ s.points
 stands-points s e h = ap (λ (d : Evaluator). d.points) h.shown
 
-pub stands-symbols : (s : ThreadState) (e : Evaluator) → Stands s e → e.bindings.symbols ≡ 2 ^ 31
-stands-symbols s e h = ap (λ (d : Evaluator). d.bindings.symbols) h.shown
-
 -- an operation of the evaluator is an entry of the run
 pub operation_ran : (limit taken : ℕ) (f : PlainProgram) (run : Run) (op : Op) (reply : Reply) (e : Evaluator) (globals : List Global) (phase : Phase) (entries : List Entry) → Ran limit f taken run → taken < limit
     → AsksFor op run.evaluator
@@ -257,7 +254,7 @@ operation_ran limit taken f run op reply e globals phase entries r h asks more r
 
 -- a run before its first point
 pub begun : (limit : ℕ) (f : PlainProgram) (run : Run)
-    → run.evaluator ≡ record { doing = Running; ahead = steps_of (main_points f.forms); values = []; frames = []; bindings = shown_bindings []; store = []; points = 0 }
+    → run.evaluator ≡ record { doing = Running; ahead = steps_of (main_points f.forms); values = []; frames = []; bindings = []; store = []; points = 0 }
     → run.globals ≡ unbound_all f.specials → run.phase ≡ Alive → run.entries ≡ [] → Ran limit f 0 run
 begun limit f run e g p n =
     record {
@@ -267,7 +264,7 @@ begun limit f run e g p n =
       legal = rw n tt;
       leads = rw n refl;
       same = refl;
-      stands = record { shown = e ∙ ap (λ a. record { doing = Running; ahead = a; values = []; frames = []; bindings = shown_bindings []; store = []; points = 0 }) (sym (append-nil (steps_of (main_points f.forms)))); nested = refl };
+      stands = record { shown = e ∙ ap (λ a. record { doing = Running; ahead = a; values = []; frames = []; bindings = []; store = []; points = 0 }) (sym (append-nil (steps_of (main_points f.forms)))); nested = refl };
       points = refl;
       globals = sym g;
       phases = rw p refl;

@@ -1,8 +1,8 @@
 -- How the evaluator shows the state of a thread.
-use Rattle.std.specs.Prelude.{◌≡◌, ◌^◌, List, [], ◌∷◌, ◌++◌, map}
+use Rattle.std.specs.Prelude.{◌≡◌, List, [], ◌∷◌, ◌++◌, map}
 use Rattle.lisp_base.specs.declared.value.Node.{Node}
 use Rattle.environment_semantics.specs.Environment.{Binding}
-use Rattle.binding_stack.specs.Stack.{Bound, Stack}
+use Rattle.binding_stack.specs.Stack.{Bound}
 use Rattle.plain_program.specs.declared.steps.Step.{Step}
 use Rattle.plain_program.specs.declared.steps.Step.TheVariants.{Leave}
 use Rattle.plain_program.specs.Steps.{steps_of}
@@ -24,10 +24,6 @@ shown_frame f = record { place = f.place; values = f.values }
 -- a binding, whose word is the place that the symbol names
 abbrev pub shown_binding : Binding → Bound
 shown_binding b = record { symbol = b.symbol; word = b.place }
-
--- the bindings of a map
-abbrev pub shown_bindings : List Binding → Stack
-shown_bindings bindings = record { bindings = map shown_binding bindings; symbols = 2 ^ 31 }
 
 -- what the thread is about, the steps ahead and the values at hand, by its control
 abbrev pub doing_of : Control → Doing
@@ -53,7 +49,7 @@ shown_of s =
       ahead = ahead_of s.control s.frames;
       values = values_of s.control;
       frames = map shown_frame s.frames;
-      bindings = shown_bindings s.environment.bindings;
+      bindings = map shown_binding s.environment.bindings;
       store = s.store;
       points = s.points;
     }

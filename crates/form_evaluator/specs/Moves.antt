@@ -61,8 +61,8 @@ written_at place e = record (gone_on e.values e) { store = stored place (top e.v
 -- a question that is a local point
 abbrev pub asked_after : Question → Evaluator → Evaluator
 asked_after Print e = e
-asked_after (Read symbol) e = read_at (word_of symbol e.bindings.bindings) e
-asked_after (Write symbol) e = written_at (word_of symbol e.bindings.bindings) e
+asked_after (Read symbol) e = read_at (word_of symbol e.bindings) e
+asked_after (Write symbol) e = written_at (word_of symbol e.bindings) e
 asked_after (Define symbol) e = e
 asked_after EndThread e = e
 
@@ -71,7 +71,7 @@ abbrev pub bound_at : ℕ → ℕ → ℕ → Evaluator → Evaluator
 bound_at symbol above place e =
     record (gone_on (take above e.values) e) {
       frames = (record { place = place; values = drop (above + 1) e.values }) ∷ e.frames;
-      bindings = record e.bindings { bindings = with_binding symbol (length e.store) e.bindings.bindings };
+      bindings = with_binding symbol (length e.store) e.bindings;
       store = e.store ++ unwrap_or (slice_get e.values above) nil ∷ [];
     }
 
@@ -82,7 +82,7 @@ opened_in false opening place e = signalled StorageCondition e
 
 -- the bindings down to so many
 abbrev pub unbound_to : ℕ → Evaluator → Evaluator
-unbound_to height e = record e { bindings = record e.bindings { bindings = kept height e.bindings.bindings } }
+unbound_to height e = record e { bindings = kept height e.bindings }
 
 -- the innermost form is left with the front value
 abbrev pub left_frame : List OpenFrame → Evaluator → Evaluator
@@ -96,7 +96,7 @@ popped_frame (f ∷ fs) e = unbound_to (length fs) (record e { frames = fs })
 
 -- there is room for a frame and a binding
 abbrev pub room_in : Evaluator → Bool
-room_in e = nat_lt (length e.frames) 4096 && nat_lt (length e.bindings.bindings) 4096
+room_in e = nat_lt (length e.frames) 4096 && nat_lt (length e.bindings) 4096
 
 -- a local point, by the step in front
 abbrev pub step_after : Option Step → Evaluator → Evaluator
@@ -123,8 +123,8 @@ local_after e = doing_after e.doing (counted e)
 -- what a question is here
 abbrev pub asked_of : Question → Evaluator → Next
 asked_of Print e = Operation (Out (Printing (top e.values)))
-asked_of (Read symbol) e = unless_bound (word_of symbol e.bindings.bindings) (Get symbol)
-asked_of (Write symbol) e = unless_bound (word_of symbol e.bindings.bindings) (Set symbol (top e.values))
+asked_of (Read symbol) e = unless_bound (word_of symbol e.bindings) (Get symbol)
+asked_of (Write symbol) e = unless_bound (word_of symbol e.bindings) (Set symbol (top e.values))
 asked_of (Define symbol) e = Operation (Set symbol (top e.values))
 asked_of EndThread e = Operation (Finish (Returned (top e.values)))
 

@@ -1,6 +1,6 @@
 ghost use Rattle.std.specs.Prelude.{◌≡◌, ◌+◌, ◌^◌, ◌<◌, [], ◌∷◌, ◌++◌, ◌&&◌, nat_lt, length, unwrap_or, slice_get, OnOk, IfOk};
 ghost use Rattle.binding_stack.specs.Stack.{word_of};
-ghost use Rattle.form_evaluator.specs.Evaluator.{Stands, shown_bindings};
+ghost use Rattle.form_evaluator.specs.Evaluator.{Stands};
 ghost use Rattle.form_evaluator.specs.Moves.{shown_after, signalled, ended_now, asked_after, read_at, written_at, bound_at, opened_in, left_frame, popped_frame, unbound_to, room_in, next_shown, asked_of, local_after, counted, question_reply_after, test_reply_after, reply_after};
 ghost use Rattle.lisp_base.specs.declared.condition.Class.{Class};
 ghost use Rattle.plain_program.specs.Points.{nil};
@@ -26,9 +26,6 @@ use world_semantics::phase::Ending;
 
 /// How many frames there may be.
 const FRAMES: usize = 4096;
-
-/// How many symbols there may be.
-const SYMBOLS: u32 = 1 << 31;
 
 /// What a thread is about.
 #[derive(Clone, Copy)]
@@ -88,9 +85,9 @@ fn sum(a: Value, b: Value) -> Result<Value, Class>
 impl Evaluator {
     /// The evaluator of main, before its first point.
     pub(crate) fn new(alloc: Global, steps: Vec<Step>) -> Result<Self, Memory>
-        ensures { IfOk result (λ e. e ≡ record { doing = Doing.Running; ahead = steps.items; values = []; frames = []; bindings = shown_bindings []; store = []; points = 0 }) }
+        ensures { IfOk result (λ e. e ≡ record { doing = Doing.Running; ahead = steps.items; values = []; frames = []; bindings = []; store = []; points = 0 }) }
     {
-        let bindings = BindingStack::new(alloc, SYMBOLS)?;
+        let bindings = BindingStack::new(alloc)?;
         Ok(Evaluator {
             doing: Doing::Running,
             ahead: Ahead::of(steps),
@@ -186,7 +183,7 @@ impl Evaluator {
 
     /// Reads a variable that is bound here.
     fn read(&mut self, symbol: SymbolId) -> Result<(), Memory>
-        ensures { OnOk result (self.new ≡ read_at (word_of symbol self.old.bindings.bindings) self.old) }
+        ensures { OnOk result (self.new ≡ read_at (word_of symbol self.old.bindings) self.old) }
     {
         let value = match self.bindings.get(symbol) {
             Some(place) => value_at(&self.store, place),
@@ -199,7 +196,7 @@ impl Evaluator {
 
     /// Writes the front value to a variable that is bound here.
     fn write(&mut self, symbol: SymbolId)
-        ensures { self.new ≡ written_at (word_of symbol self.old.bindings.bindings) self.old }
+        ensures { self.new ≡ written_at (word_of symbol self.old.bindings) self.old }
     {
         let value = self.front_value();
         match self.bindings.get(symbol) {
@@ -223,7 +220,6 @@ impl Evaluator {
         opening: &Opening,
         place: Place,
     ) -> Result<(), Memory>
-        requires symbols { self.old.bindings.symbols ≡ 2 ^ 31 }
         ensures { OnOk result (self.new ≡ opened_in (room_in self.old) opening.now place self.old) }
     {
         if !self.has_room() {
@@ -244,8 +240,7 @@ impl Evaluator {
         above: usize,
         place: Place,
     ) -> Result<(), Memory>
-        requires room { length self.old.bindings.bindings < 4096 }
-        requires symbols { self.old.bindings.symbols ≡ 2 ^ 31 }
+        requires { length self.old.bindings < 4096 }
         ensures { OnOk result (self.new ≡ bound_at symbol above place self.old) }
     {
         let front = self.values.take_front(alloc, above)?;
@@ -258,7 +253,6 @@ impl Evaluator {
             place,
             values: behind,
         })?;
-        let _ = symbol.number();
         let _ = self.bindings.bind(symbol, new_place);
         self.ahead.advance();
         Ok(())

@@ -27,8 +27,7 @@ impl Evaluator {
 
     /// Takes a local point.
     pub(crate) fn local_step(&mut self, alloc: Global) -> Result<(), Memory>
-        requires points { self.old.points + 1 < 2 ^ 64 }
-        requires symbols { self.old.bindings.symbols ≡ 2 ^ 31 }
+        requires { self.old.points + 1 < 2 ^ 64 }
         ensures { (s : ThreadState) → Stands s self.old → OnOk result (Stands (local_step_of s) self.new) }
     {
         Ok(self.take_local(alloc)?)
@@ -96,8 +95,7 @@ impl Evaluator {
 
     /// Takes a local point, by what it is about.
     fn take_local(&mut self, alloc: Global) -> Result<(), Memory>
-        requires points { self.old.points + 1 < 2 ^ 64 }
-        requires symbols { self.old.bindings.symbols ≡ 2 ^ 31 }
+        requires { self.old.points + 1 < 2 ^ 64 }
         ensures { OnOk result (self.new ≡ local_after self.old) }
     {
         self.count();

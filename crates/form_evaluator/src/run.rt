@@ -106,7 +106,6 @@ impl Run {
     #[tactic(auto, using(crate::proofs::Turned::local_ran, crate::proofs::Turned::nothing_left))]
     fn turn(&mut self, alloc: Global) -> Result<bool, Memory>
         requires points { self.old.evaluator.points < 2 ^ 32 }
-        requires symbols { self.old.evaluator.bindings.symbols ≡ 2 ^ 31 }
         requires entries { length self.old.entries < 2 ^ 32 }
         ensures { (limit : ℕ) (p : Whole) (taken : ℕ) → Ran limit p taken self.old → taken < limit → IfOk result (λ goes. Goes limit p taken goes self.new) }
     {

@@ -5,7 +5,7 @@ use std::test::Fail;
 #[test]
 fn bind_at_4096_bindings_is_full(rt: HostRuntime) -> Result<(), Fail> {
     let x = SymbolId(0);
-    let mut stack = BindingStack::new(rt.alloc(), 1)?;
+    let mut stack = BindingStack::new(rt.alloc())?;
     for word in 0..4096 {
         assert_eq!(rt; stack.bind(x, word), Ok(()));
     }
@@ -18,7 +18,7 @@ fn bind_at_4096_bindings_is_full(rt: HostRuntime) -> Result<(), Fail> {
 #[test]
 fn set_writes_the_innermost_binding(rt: HostRuntime) -> Result<(), Fail> {
     let (x, y) = (SymbolId(0), SymbolId(1));
-    let mut stack = BindingStack::new(rt.alloc(), 2)?;
+    let mut stack = BindingStack::new(rt.alloc())?;
     assert_eq!(rt; stack.bind(x, 1), Ok(()));
     assert_eq!(rt; stack.bind(y, 2), Ok(()));
     assert!(rt; stack.set(x, 5));

@@ -47,24 +47,19 @@ impl<'a> Items<'a> {
         }
     }
 
-    /// How many there are.
+    /// How many there are: fewer than 2^30, which is more than any text has.
     pub fn count(&self) -> u32
-        ensures { result ≡ count_of self.now }
+        ensures is { result ≡ count_of self.now }
+        ensures few { result < 2 ^ 30 }
     {
         self.count
     }
 
-    /// There are fewer than 2^30, which is more than any text has.
-    pub fn are_few(&self)
-        ensures { count_of self.now < 2 ^ 30 }
-    {
-        let _ = &self.nodes;
-    }
-
-    /// The first and the others: `None` exactly where there are none.
+    /// The first and the others: `None` exactly where there are none. There are fewer than 2^30.
     pub fn split_first(&self) -> Option<(First<'a>, Items<'a>)>
         ensures some { IfSome result (λ split. self.now ≡ with_first split.0 split.1) }
         ensures none { IfNone result (self.now ≡ NoData) }
+        ensures few { count_of self.now < 2 ^ 30 }
     {
         if self.count == 0 {
             return None;

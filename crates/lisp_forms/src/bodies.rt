@@ -146,8 +146,6 @@ pub fn push_catch(
     ensures { Wrote nodes.old nodes.new (flat_one (form CoreKind.Catch place (in_front (first_of place (forms_in (scope_at base.now levels.now depth) arguments.entry)) (body_in (scope_at base.now levels.now depth) 1 arguments.entry)))) }
 {
     let body = body_of(base.symbols, rest(&arguments, 1));
-    // The law that they are few.
-    body.are_few();
     push_form(CoreKind::Catch, place, body.count() + 1, nodes);
     push_head(alloc, base, levels, depth, place, arguments, nodes);
     push_all(alloc, base, levels, depth, body, nodes)
@@ -170,9 +168,6 @@ pub fn push_deadline(
 {
     let items = items_first(&arguments);
     let body = body_of(base.symbols, rest(&arguments, 1));
-    // The law that they are few.
-    items.are_few();
-    body.are_few();
     let parts = parts_of(Roles::Values(0), items.count()) + body.count();
     let kind = CoreKind::WithDeadline { seconds, replaces };
     push_form(kind, place, parts, nodes);
@@ -205,8 +200,6 @@ fn count_clauses(clauses: &Items) -> u32
     ensures is { (s : Scope) (place : ℕ) → result ≡ count_of (clauses_in s place clauses.now) }
     ensures few { result < 2 ^ 30 }
 {
-    // The law that they are few.
-    clauses.are_few();
     let mut count = 0;
     let mut left = clauses.skip(0);
     while let Some((first, others)) = left.split_first() {

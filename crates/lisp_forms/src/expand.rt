@@ -222,8 +222,6 @@ fn push_over(
 )
     ensures { Wrote nodes.old nodes.new (flat_one (form kind place (by_roles (scope_at base.now levels.now depth) roles 0 arguments.entry))) }
 {
-    // The law that they are few.
-    arguments.are_few();
     let parts = parts_of(roles, arguments.count());
     push_form(kind, place, parts, nodes);
     push_by_roles(alloc, base, levels, depth, roles, arguments, nodes)
@@ -242,8 +240,6 @@ pub fn push_by_roles(
 )
     ensures { Wrote nodes.old nodes.new (flat (by_roles (scope_at base.now levels.now depth) roles 0 items.entry)) }
 {
-    // The law that they are few.
-    items.are_few();
     let mut index = 0;
     let mut left = items;
     while let Some((first, others)) = left.split_first() {

@@ -50,8 +50,6 @@ pub fn push_let(
         return push_all(alloc, base, &open.levels, open.depth, body, nodes);
     }
     let bindings = items_first(&arguments);
-    // The law that they are few.
-    bindings.are_few();
     push_form(CoreKind::Let, place, bindings.count() + 1, nodes);
     push_values(alloc, base, levels, depth, bindings, nodes);
     push_binds(

@@ -142,8 +142,6 @@ pub fn push_mutex(
     };
     let items = items_first(&arguments);
     let operands = items_first(&arguments);
-    // The law that they are few.
-    operands.are_few();
     let count = parts_of(Roles::Values(1), operands.count()) + 1;
     push_form(CoreKind::Let, place, 3, nodes);
     push_head(alloc, base, levels, depth, place, items, nodes);

@@ -44,8 +44,6 @@ pub fn push_loop(
         return nodes.fill();
     };
     let body = body_of(base.symbols, arguments);
-    // The law that they are few.
-    body.are_few();
     let mut turns = Writer::new(alloc);
     push_form(CoreKind::While, place, body.count() + 1, &mut turns);
     push_true(place, &mut turns);

@@ -47,8 +47,6 @@ pub fn push_over_nil(
 )
     ensures { Wrote nodes.old nodes.new (flat_one (form kind place (joined (by_roles (scope_at base.now levels.now depth) roles 0 arguments.entry) (only (nil_form place))))) }
 {
-    // The law that they are few.
-    arguments.are_few();
     let parts = parts_of(roles, arguments.count()) + 1;
     push_form(kind, place, parts, nodes);
     push_by_roles(alloc, base, levels, depth, roles, arguments, nodes);
@@ -268,8 +266,6 @@ pub fn push_prog1(
         return nodes.fill();
     };
     let body = body_of(base.symbols, rest(&arguments, 1));
-    // The law that they are few.
-    body.are_few();
     push_form(CoreKind::Let, place, 2, nodes);
     push_head(alloc, base, levels, depth, place, arguments, nodes);
     push_form(
@@ -309,8 +305,6 @@ pub fn push_setq(
 fn count_pairs(items: &Items) -> u32
     ensures { (s : Scope) (place : ℕ) → result ≡ count_of (pairs_in s place items.now) }
 {
-    // The law that they are few.
-    items.are_few();
     let mut pairs = 0;
     let mut left = items.skip(0);
     while let Some((first, others)) = left.split_first() {

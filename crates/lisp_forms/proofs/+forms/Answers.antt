@@ -28,19 +28,19 @@ pub bodies::push_body_form-returns : goal.bodies::push_body_form-returns
 bodies::push_body_form-returns t c =
     wrote_same _ _ _ _ (wrote_both _ _ _ _ _ c.push_form.ensures c.push_all.ensures)
     (body_form (scope_at c.args.base.now c.args.levels.now c.args.depth) c.args.kind c.args.place 0 c.count.result c.args.arguments c.args.arguments c.body_of-body.result [] _ _
-    refl c.body_of-body.ensures.is c.count.ensures refl refl)
+    refl c.body_of-body.ensures.is c.count.ensures.is refl refl)
 
 pub bodies::push_catch-returns : goal.bodies::push_catch-returns
 bodies::push_catch-returns t c =
     wrote_same _ _ _ _ (wrote_both _ _ _ _ _ (wrote_both _ _ _ _ _ c.push_form.ensures c.push_head.ensures) c.push_all.ensures)
     (front_form (scope_at c.args.base.now c.args.levels.now c.args.depth) Catch c.args.place 1 c.count.result _ c.args.arguments _ c.body_of-body.result [] _ _ _
-    c.rest.ensures.is c.body_of-body.ensures.is c.count.ensures refl refl refl)
+    c.rest.ensures.is c.body_of-body.ensures.is c.count.ensures.is refl refl refl)
 
 pub bodies::push_deadline-returns : goal.bodies::push_deadline-returns
 bodies::push_deadline-returns t c =
     wrote_same _ _ _ _ (wrote_both _ _ _ _ _ (wrote_both _ _ _ _ _ c.push_form.ensures c.push_by_roles.ensures) c.push_all.ensures)
     (joined_form (scope_at c.args.base.now c.args.levels.now c.args.depth) (WithDeadline c.args.seconds c.args.replaces) (Values 0) c.args.place 1 c.parts_of.result c.count-2.result c.args.arguments _ _ c.body_of-body.result [] _ _ _
-    c.items_first-items.ensures.is c.rest.ensures.is c.body_of-body.ensures.is (c.parts_of.ensures.is ∙ ap (parts_of (Values 0) 0) c.count.ensures) c.count-2.ensures refl refl refl)
+    c.items_first-items.ensures.is c.rest.ensures.is c.body_of-body.ensures.is (c.parts_of.ensures.is ∙ ap (parts_of (Values 0) 0) c.count.ensures.is) c.count-2.ensures.is refl refl refl)
 
 pub bodies::push_bound_clause-returns : goal.bodies::push_bound_clause-returns
 bodies::push_bound_clause-returns t c =
@@ -49,10 +49,10 @@ bodies::push_bound_clause-returns t c =
           (wrote_both _ _ _ _ _ (wrote_both _ _ _ _ _ (wrote_both _ _ _ _ _ (wrote_both _ _ _ _ _ w.push_form.ensures w.push_form-then-has.ensures) w.push_local.ensures) w.push_form-then-has-2.ensures)
           (rw w.nodes-is at c.push_all.ensures))
           (special_clause (scope_at c.args.base.now c.args.levels.now c.args.depth) (with_opened (scope_at c.args.base.now c.args.levels.now c.args.depth) c.in-Ok.open) c.args.depth c.args.place c.args.variable w.count.result c.args.class c.args.body [] _ _ _ _ _
-          (sym c.has.ensures ∙ w.if-has.true) c.in-Ok.ensures w.count.ensures refl refl refl refl refl)
+          (sym c.has.ensures ∙ w.if-has.true) c.in-Ok.ensures w.count.ensures.is refl refl refl refl refl)
       | bodies::push_bound_clause-else-has w ↦ wrote_same _ _ _ _ (wrote_both _ _ _ _ _ w.push_form-else-has.ensures (rw w.nodes-is at c.push_all.ensures))
           (lexical_clause (scope_at c.args.base.now c.args.levels.now c.args.depth) (with_opened (scope_at c.args.base.now c.args.levels.now c.args.depth) c.in-Ok.open) c.args.depth c.args.place c.args.variable w.count-else-has.result c.args.class c.args.body [] _ _
-          (sym c.has.ensures ∙ w.if-has.false) c.in-Ok.ensures w.count-else-has.ensures refl refl)
+          (sym c.has.ensures ∙ w.if-has.false) c.in-Ok.ensures w.count-else-has.ensures.is refl refl)
     ]
 
 pub bodies::push_clause-returns-in-Some-clause_variable : goal.bodies::push_clause-returns-in-Some-clause_variable
@@ -64,14 +64,14 @@ bodies::push_clause-returns-in-Some-clause_variable t c =
 pub bodies::push_clause-returns-in-None : goal.bodies::push_clause-returns-in-None
 bodies::push_clause-returns-in-None t c =
     wrote_same _ _ _ _ (wrote_both _ _ _ _ _ c.push_form.ensures c.push_all.ensures)
-    (under_form (Clause c.unwrap_or-class.result) c.args.place c.count.result (forms_in (scope_at c.args.base.now c.args.levels.now c.args.depth) c.body_of-body.result) [] _ _ (c.count.ensures ∙ sym (count-forms (scope_at c.args.base.now c.args.levels.now c.args.depth) c.body_of-body.result)) refl refl
+    (under_form (Clause c.unwrap_or-class.result) c.args.place c.count.result (forms_in (scope_at c.args.base.now c.args.levels.now c.args.depth) c.body_of-body.result) [] _ _ (c.count.ensures.is ∙ sym (count-forms (scope_at c.args.base.now c.args.levels.now c.args.depth) c.body_of-body.result)) refl refl
     ∙ ap flat_one (clause-is (scope_at c.args.base.now c.args.levels.now c.args.depth) c.args.place c.args.under c.in-Some.others c.rest.result c.body_of-body.result c.in-Some.first c.unwrap_or-class.result c.class_of.result c.symbol_by.result None
     c.in-Some.ensures.some (sym c.is_list.ensures ∙ c.if-is_list.false) c.symbol_by.ensures c.class_of.ensures c.unwrap_or-class.ensures (sym c.clause_variable.ensures ∙ c.in-None.is) c.rest.ensures.is c.body_of-body.ensures.is))
 
 pub expand::push_by_roles-loop-first-preserved : goal.expand::push_by_roles-loop-first-preserved
 expand::push_by_roles-loop-first-preserved t c = record {
   smaller = omega (arith, c.loop-first.invariant.smaller, ap size_of c.in-Some.ensures.some, size_of-with_first c.in-Some.first c.in-Some.others);
-  few = omega (arith, c.loop-first.invariant.few, ap count_of c.in-Some.ensures.some, data-with_first c.in-Some.first c.in-Some.others);
+  few = omega (arith, c.loop-first.invariant.few, c.in-Some.ensures.few, ap count_of c.in-Some.ensures.some, data-with_first c.in-Some.first c.in-Some.others);
   written = role_step (scope_at c.args.base.now c.args.levels.now c.args.depth) c.args.roles c.loop-first.index c.role_at.result c.in-Some.first _ _ _ _ _ _ c.in-Some.ensures.some c.role_at.ensures c.loop-first.invariant.written
       (elim c.match-role_at.branch [
         | expand::push_by_roles-in-Value w ↦ value_written c.role_at.result _ _ _ _ w.in-Value.is (rw w.nodes-is w.push_first.ensures)
@@ -86,7 +86,7 @@ expand::push_lambda-returns t c =
     (lambda_steps (scope_at c.args.base.now c.args.levels.now c.args.depth) c.in-Ok-received_within.open c.args.place c.count.result c.count-2.result _ c.as_slice.result.now c.as_slice-2.result.now c.as_slice-3.result.now
     c.args.arguments c.rest.result c.function_body_of-body.result [] _ _ _
     (c.as_slice.ensures.value ∙ c.in-Ok.ensures) (c.as_slice-2.ensures.value ∙ c.in-Ok.ensures) (c.as_slice-3.ensures.value ∙ c.in-Ok.ensures) c.in-Ok-received_within.ensures
-    c.rest.ensures.is c.function_body_of-body.ensures.is c.count.ensures c.count-2.ensures c.special_parts-parts.ensures refl refl refl)
+    c.rest.ensures.is c.function_body_of-body.ensures.is c.count.ensures.is c.count-2.ensures.is c.special_parts-parts.ensures refl refl refl)
 
 pub expand::push_list-returns-in-Ok : goal.expand::push_list-returns-in-Ok
 expand::push_list-returns-in-Ok t c =
@@ -99,7 +99,7 @@ pub expand::push_over-returns : goal.expand::push_over-returns
 expand::push_over-returns t c =
     wrote_same _ _ _ _ (wrote_both _ _ _ _ _ c.push_form.ensures c.push_by_roles.ensures)
     (over c.args.kind c.args.place c.parts_of-parts.result _ [] _ _
-    (c.parts_of-parts.ensures.is ∙ ap (parts_of c.args.roles 0) c.count.ensures ∙ sym (count-roles (scope_at c.args.base.now c.args.levels.now c.args.depth) c.args.roles 0 c.args.arguments)) refl refl)
+    (c.parts_of-parts.ensures.is ∙ ap (parts_of c.args.roles 0) c.count.ensures.is ∙ sym (count-roles (scope_at c.args.base.now c.args.levels.now c.args.depth) c.args.roles 0 c.args.arguments)) refl refl)
 
 pub expand::push_shaped-returns-in-Mutex : goal.expand::push_shaped-returns-in-Mutex
 expand::push_shaped-returns-in-Mutex t c =
@@ -111,7 +111,7 @@ expand::push_shaped-returns-in-RecursiveLock t c =
 
 pub lets::push_let-push_binds-requires : goal.lets::push_let-push_binds-requires
 lets::push_let-push_binds-requires t c =
-    few_variables c.args.arguments c.items_first-bindings.result _ (c.as_slice-2.ensures.value ∙ c.in-Ok.ensures) c.items_first-bindings.ensures.is c.are_few.ensures
+    few_variables c.args.arguments c.items_first-bindings.result _ (c.as_slice-2.ensures.value ∙ c.in-Ok.ensures) c.items_first-bindings.ensures.is (rw c.count-2.ensures.is at c.count-2.ensures.few)
 
 pub lets::push_let-returns : goal.lets::push_let-returns
 lets::push_let-returns t c =
@@ -120,8 +120,8 @@ lets::push_let-returns t c =
     wrote_same _ _ _ _ (wrote_both _ _ _ _ _ (wrote_both _ _ _ _ _ (wrote_both _ _ _ _ _ c.push_form-2.ensures c.push_values.ensures) (rw same at c.push_binds.ensures)) c.push_all-2.ensures)
     (let_of_some (scope_at c.args.base.now c.args.levels.now c.args.depth) c.in-Ok-opened_within.open c.args.place c.count-2.result c.count-3.result c.args.arguments c.rest.result
     c.body_of-body.result c.items_first-bindings.result c.as_slice.result.now [] _ _ _ _ (λ h. some (ap length (sym c.as_slice.ensures.value) ∙ h))
-    (c.as_slice.ensures.value ∙ c.in-Ok.ensures) c.in-Ok-opened_within.ensures c.rest.ensures.is c.body_of-body.ensures.is c.count-3.ensures
-    c.items_first-bindings.ensures.is c.count-2.ensures refl refl refl refl)
+    (c.as_slice.ensures.value ∙ c.in-Ok.ensures) c.in-Ok-opened_within.ensures c.rest.ensures.is c.body_of-body.ensures.is c.count-3.ensures.is
+    c.items_first-bindings.ensures.is c.count-2.ensures.is refl refl refl refl)
 
 pub lets::push_let-returns-then-is_empty : goal.lets::push_let-returns-then-is_empty
 lets::push_let-returns-then-is_empty t c =
@@ -129,7 +129,7 @@ lets::push_let-returns-then-is_empty t c =
     wrote_same _ _ _ _ (wrote_both _ _ _ _ _ c.push_form.ensures c.push_all.ensures)
     (let_of_none (scope_at c.args.base.now c.args.levels.now c.args.depth) c.in-Ok-opened_within.open c.args.place c.count.result c.args.arguments c.rest.result
     c.body_of-body.result c.as_slice.result.now [] _ _ (ap length c.as_slice.ensures.value ∙ none) (c.as_slice.ensures.value ∙ c.in-Ok.ensures) c.in-Ok-opened_within.ensures
-    c.rest.ensures.is c.body_of-body.ensures.is c.count.ensures refl refl)
+    c.rest.ensures.is c.body_of-body.ensures.is c.count.ensures.is refl refl)
 
 pub lets::push_let_star-returns-then-is_empty : goal.lets::push_let_star-returns-then-is_empty
 lets::push_let_star-returns-then-is_empty t c =
@@ -137,7 +137,7 @@ lets::push_let_star-returns-then-is_empty t c =
     wrote_same _ _ _ _ (wrote_both _ _ _ _ _ c.push_form.ensures c.push_all.ensures)
     (let_star_of_none (scope_at c.args.base.now c.args.levels.now c.args.depth) c.in-Ok-opened_within.open c.args.place c.count.result c.args.arguments c.rest.result
     c.body_of-body.result c.as_slice.result.now [] _ _ (ap length c.as_slice.ensures.value ∙ none) (c.as_slice.ensures.value ∙ c.in-Ok.ensures) c.in-Ok-opened_within.ensures
-    c.rest.ensures.is c.body_of-body.ensures.is c.count.ensures refl refl)
+    c.rest.ensures.is c.body_of-body.ensures.is c.count.ensures.is refl refl)
 
 pub lets::push_let_star-returns : goal.lets::push_let_star-returns
 lets::push_let_star-returns t c =
@@ -145,7 +145,7 @@ lets::push_let_star-returns t c =
     let same : c.as_slice-2.result.now ≡ c.as_slice.result.now = c.as_slice-2.ensures.value ∙ sym c.as_slice.ensures.value in
     let_star_of_some (scope_at c.args.base.now c.args.levels.now c.args.depth) c.in-Ok-opened_within.open c.args.place c.count-2.result c.args.arguments c.rest.result
     c.body_of-body.result c.items_first-bindings.result c.as_slice.result.now c.args.nodes.now c.push_turns.new.nodes c.push_all-2.new.nodes (λ h. some (ap length (sym c.as_slice.ensures.value) ∙ h))
-    (c.as_slice.ensures.value ∙ c.in-Ok.ensures) c.in-Ok-opened_within.ensures c.rest.ensures.is c.body_of-body.ensures.is c.count-2.ensures
+    (c.as_slice.ensures.value ∙ c.in-Ok.ensures) c.in-Ok-opened_within.ensures c.rest.ensures.is c.body_of-body.ensures.is c.count-2.ensures.is
     c.items_first-bindings.ensures.is (rw same at c.push_turns.ensures) c.push_all-2.ensures
 
 pub lets::push_turns-returns : goal.lets::push_turns-returns
@@ -178,14 +178,14 @@ locks::push_lock-returns t c =
 pub locks::push_locked_body-returns : goal.locks::push_locked_body-returns
 locks::push_locked_body-returns t c =
     wrote_same _ _ _ _ (wrote_both _ _ _ _ _ (wrote_both _ _ _ _ _ (wrote_both _ _ _ _ _ (wrote_both _ _ _ _ _ (wrote_both _ _ _ _ _ c.push_form.ensures c.push_form-2.ensures) c.push_form-3.ensures) c.push_all.ensures) c.push_nil.ensures) c.push_release.ensures)
-    (locked_body c.args.lock.now (scope_at c.args.base.now c.args.levels.now c.args.depth) c.args.place c.count.result c.args.body [] _ _ _ _ _ _ c.count.ensures refl refl refl refl refl refl)
+    (locked_body c.args.lock.now (scope_at c.args.base.now c.args.levels.now c.args.depth) c.args.place c.count.result c.args.body [] _ _ _ _ _ _ c.count.ensures.is refl refl refl refl refl refl)
 
 pub locks::push_mutex-returns : goal.locks::push_mutex-returns
 locks::push_mutex-returns t c =
     wrote_same _ _ _ _ (wrote_both _ _ _ _ _ (wrote_both _ _ _ _ _ (wrote_both _ _ _ _ _ (wrote_both _ _ _ _ _ (wrote_both _ _ _ _ _ c.push_form.ensures c.push_head.ensures) c.push_region.ensures) c.push_grab.ensures) c.push_by_roles.ensures) c.push_locked_body.ensures)
     (mutex_steps c.args.base.now c.args.levels.now c.args.depth c.args.place c.parts_of-count.result c.args.waitp c.args.timeout c.in-Ok.lock c.args.arguments
     c.items_first-items.result c.items_first-operands.result c.rest.result c.body_of-body.result [] _ _ _ _ _ _ c.in-Ok.ensures c.items_first-items.ensures.is c.items_first-operands.ensures.is
-    (c.parts_of-count.ensures.is ∙ ap (parts_of (Values 1) 0) c.count.ensures) c.rest.ensures.is c.body_of-body.ensures.is refl refl refl refl refl refl)
+    (c.parts_of-count.ensures.is ∙ ap (parts_of (Values 1) 0) c.count.ensures.is) c.rest.ensures.is c.body_of-body.ensures.is refl refl refl refl refl refl)
 
 pub locks::push_timeout-returns : goal.locks::push_timeout-returns
 locks::push_timeout-returns t c =
@@ -203,7 +203,7 @@ loops::push_dotimes-returns t c =
 pub loops::push_loop-returns : goal.loops::push_loop-returns
 loops::push_loop-returns t c =
     loop_written (scope_at c.args.base.now c.args.levels.now c.args.depth) c.in-Ok.open c.args.place c.nil.result c.count.result c.args.arguments
-    c.body_of-body.result c.as_slice.result.now _ _ c.in-Ok.ensures c.nil.ensures c.body_of-body.ensures.is c.count.ensures
+    c.body_of-body.result c.as_slice.result.now _ _ c.in-Ok.ensures c.nil.ensures c.body_of-body.ensures.is c.count.ensures.is
     (c.as_slice.ensures.value ∙ written_whole _ _ c.in-Ok-finish.turns.items _ c.new-turns.ensures c.in-Ok-finish.ensures
     (wrote_both _ _ _ _ _ (wrote_both _ _ _ _ _ c.push_form.ensures c.push_true.ensures) c.push_all.ensures)) c.push_blocked.ensures
 
@@ -213,12 +213,12 @@ loops::push_turns-returns t c =
     (turns_written (scope_at c.args.base.now c.args.levels.now c.args.depth) c.in-Ok.open c.open_variable.new.opened c.args.place c.args.variable
     c.in-Ok-next.limit c.in-Ok-next-2.done c.count.result c.bind_kind-kind.result c.args.arguments c.rest.result c.body_of-body.result [] _ _ _ _ _ _ _ _
     c.in-Ok.ensures c.in-Ok-next.ensures c.in-Ok-next-2.ensures (c.bind_kind-kind.ensures (scope_at c.args.base.now c.args.levels.now c.args.depth) refl)
-    (where_ok c.open_variable.result c.is_err.result c.is_err.ensures.value c.if-is_err.false c.open_variable.ensures (scope_at c.args.base.now c.args.levels.now c.args.depth) refl) c.rest.ensures.is c.body_of-body.ensures.is c.count.ensures refl refl refl refl refl refl refl refl)
+    (where_ok c.open_variable.result c.is_err.result c.is_err.ensures.value c.if-is_err.false c.open_variable.ensures (scope_at c.args.base.now c.args.levels.now c.args.depth) refl) c.rest.ensures.is c.body_of-body.ensures.is c.count.ensures.is refl refl refl refl refl refl refl refl)
 
 pub rows::push_and-returns : goal.rows::push_and-returns
 rows::push_and-returns t c =
-    and_end (scope_at c.args.base.now c.args.levels.now c.args.depth) c.args.place c.count-ifs.result _ _ _ _ _ _ c.count-ifs.ensures
-    (λ none. c.if-count-eq0.false (c.count.ensures ∙ sym c.count-ifs.ensures ∙ none)) refl (c.in_default.ensures.none) c.loop-first.invariant.written (rw c.nil.ensures at c.push_forms.ensures)
+    and_end (scope_at c.args.base.now c.args.levels.now c.args.depth) c.args.place c.count-ifs.result _ _ _ _ _ _ c.count-ifs.ensures.is
+    (λ none. c.if-count-eq0.false (c.count.ensures.is ∙ sym c.count-ifs.ensures.is ∙ none)) refl (c.in_default.ensures.none) c.loop-first.invariant.written (rw c.nil.ensures at c.push_forms.ensures)
 
 pub rows::push_change-returns-in-Some : goal.rows::push_change-returns-in-Some
 rows::push_change-returns-in-Some t c =
@@ -230,43 +230,43 @@ pub rows::push_clause-returns : goal.rows::push_clause-returns
 rows::push_clause-returns t c =
     wrote_same _ _ _ _ (wrote_both _ _ _ _ _ (wrote_both _ _ _ _ _ c.push_form.ensures c.push_first.ensures) c.push_progn.ensures)
     (clause_steps (scope_at c.args.base.now c.args.levels.now c.args.depth) c.args.depth c.args.place c.in-Some.first _ _ [] _ _ _ c.in-Some.ensures.some
-    (λ none. c.if-count-eq0.false (c.count.ensures ∙ none)) refl refl refl)
+    (λ none. c.if-count-eq0.false (c.count.ensures.is ∙ none)) refl refl refl)
 
 pub rows::push_cond-loop-first-preserved-in-Ok : goal.rows::push_cond-loop-first-preserved-in-Ok
 rows::push_cond-loop-first-preserved-in-Ok t c = record {
   smaller = omega (arith, c.loop-first.invariant.smaller, ap size_of c.in-Some.ensures.some, size_of-with_first c.in-Some.first c.in-Some.others);
   written = test_step (scope_at c.args.base.now c.args.levels.now c.loop-first.«open») c.args.place c.in-List.field-0 c.in-Ok.behind c.in-Some.first _ _ _ _ _ _ _ c.in-Some.ensures.some c.in-List.is
-      (sym c.count-is_test.ensures ∙ c.if-is_test.true) c.loop-first.invariant.written c.push_clause.ensures c.in-Ok.ensures;
+      (sym c.count-is_test.ensures.is ∙ c.if-is_test.true) c.loop-first.invariant.written c.push_clause.ensures c.in-Ok.ensures;
 }
 
 pub rows::push_fold-returns : goal.rows::push_fold-returns
 rows::push_fold-returns t c =
     wrote_same _ _ _ _ (wrote_both _ _ _ _ _ c.push_forms.ensures c.push_all-2.ensures)
-    (fold_steps (scope_at c.args.base.now c.args.levels.now c.args.depth) c.args.place c.count-count.result c.args.function c.args.arguments [] _ _ c.count-count.ensures c.if-count-eq0.false c.if-count-eq1.false refl refl)
+    (fold_steps (scope_at c.args.base.now c.args.levels.now c.args.depth) c.args.place c.count-count.result c.args.function c.args.arguments [] _ _ c.count-count.ensures.is c.if-count-eq0.false c.if-count-eq1.false refl refl)
 
 pub rows::push_or-loop-first-preserved : goal.rows::push_or-loop-first-preserved
 rows::push_or-loop-first-preserved t c = record {
   smaller = omega (arith, c.loop-first.invariant.smaller, ap size_of c.in-Some.ensures.some, size_of-with_first c.in-Some.first c.in-Some.others);
   written = or_step (scope_at c.args.base.now c.args.levels.now c.loop-first.«open») c.args.place c.in-Ok.behind c.in-Some.first _ _ _ _ _ _ c.in-Some.ensures.some
-      (λ none. c.if-count-eq0.false (c.count.ensures ∙ none)) c.loop-first.invariant.written c.push_either.ensures c.in-Ok.ensures;
+      (λ none. c.if-count-eq0.false (c.count.ensures.is ∙ none)) c.loop-first.invariant.written c.push_either.ensures c.in-Ok.ensures;
 }
 
 pub rows::push_over_nil-returns : goal.rows::push_over_nil-returns
 rows::push_over_nil-returns t c =
     wrote_same _ _ _ _ (wrote_both _ _ _ _ _ (wrote_both _ _ _ _ _ c.push_form.ensures c.push_by_roles.ensures) c.push_nil.ensures)
     (over_nil c.args.kind c.args.place c.parts_of-parts.result _ [] _ _ _
-    (c.parts_of-parts.ensures.is ∙ ap (parts_of c.args.roles 0) c.count.ensures ∙ sym (count-roles (scope_at c.args.base.now c.args.levels.now c.args.depth) c.args.roles 0 c.args.arguments)) refl refl refl)
+    (c.parts_of-parts.ensures.is ∙ ap (parts_of c.args.roles 0) c.count.ensures.is ∙ sym (count-roles (scope_at c.args.base.now c.args.levels.now c.args.depth) c.args.roles 0 c.args.arguments)) refl refl refl)
 
 pub rows::push_prog1-returns : goal.rows::push_prog1-returns
 rows::push_prog1-returns t c =
     wrote_same _ _ _ _ (wrote_both _ _ _ _ _ (wrote_both _ _ _ _ _ (wrote_both _ _ _ _ _ (wrote_both _ _ _ _ _ c.push_form.ensures c.push_head.ensures) c.push_form-2.ensures) c.push_all.ensures) c.push_local.ensures)
     (prog1_steps (scope_at c.args.base.now c.args.levels.now c.args.depth) c.args.depth c.args.place _ _ c.args.arguments _ _ [] _ _ _ _ _
-    c.in-Ok.ensures c.rest.ensures.is c.body_of-body.ensures.is c.count.ensures refl refl refl refl refl)
+    c.in-Ok.ensures c.rest.ensures.is c.body_of-body.ensures.is c.count.ensures.is refl refl refl refl refl)
 
 pub rows::push_progn-returns : goal.rows::push_progn-returns
 rows::push_progn-returns t c =
     wrote_same _ _ _ _ (wrote_both _ _ _ _ _ c.push_form.ensures c.push_all.ensures)
-    (over k.Progn c.args.place c.count.result _ [] _ _ (c.count.ensures ∙ sym (count-forms (scope_at c.args.base.now c.args.levels.now c.args.depth) c.args.items)) refl refl)
+    (over k.Progn c.args.place c.count.result _ [] _ _ (c.count.ensures.is ∙ sym (count-forms (scope_at c.args.base.now c.args.levels.now c.args.depth) c.args.items)) refl refl)
 
 pub rows::push_unless-returns : goal.rows::push_unless-returns
 rows::push_unless-returns t c =
@@ -282,5 +282,5 @@ pub rows::push_cond-loop-first-preserved : goal.rows::push_cond-loop-first-prese
 rows::push_cond-loop-first-preserved t c = record {
   smaller = omega (arith, c.loop-first.invariant.smaller, ap size_of c.in-Some.ensures.some, size_of-with_first c.in-Some.first c.in-Some.others);
   written = clause_step (scope_at c.args.base.now c.args.levels.now c.loop-first.«open») c.args.place c.in-List.field-0 c.in-Some.first _ _ _ _ _ _ _ c.in-Some.ensures.some c.in-List.is
-      (λ one. c.if-is_test.false (c.count-is_test.ensures ∙ one)) c.loop-first.invariant.written c.push_clause.ensures;
+      (λ one. c.if-is_test.false (c.count-is_test.ensures.is ∙ one)) c.loop-first.invariant.written c.push_clause.ensures;
 }

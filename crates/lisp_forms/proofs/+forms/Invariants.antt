@@ -1,4 +1,4 @@
-use Rattle.std.proofs.Common.{◌≡◌, ◌+◌, ◌*◌, ◌≤◌, Some, drop}
+use Rattle.std.proofs.Common.{◌≡◌, ◌+◌, ◌*◌, ◌^◌, ◌-◌, ◌≤◌, Some, drop}
 use Rattle.lisp_base.proofs.Writing.{Writes}
 use Rattle.lisp_data.specs.Data.{NoData, count_of}
 use Rattle.lisp_data.specs.First.{with_first}
@@ -191,7 +191,7 @@ decreases-expand::push_all-loop-first l = size_of l.left
 abbrev pub invariant-expand::push_by_roles-loop-first : goal.invariant-expand::push_by_roles-loop-first
 invariant-expand::push_by_roles-loop-first l = record {
   smaller : size_of l.left ≤ size_of l.fn.items;
-  few : l.index + count_of l.left ≤ count_of l.fn.items;
+  few : l.index ≤ 2 ^ 30 - 1 - count_of l.left;
   written : Writes l.fn.nodes l.nodes (flat (by_roles (scope_at l.base l.levels l.depth) l.roles l.index l.left)) (flat (by_roles (scope_at l.base l.levels l.depth) l.roles 0 l.fn.items));
 }
 

@@ -23,7 +23,7 @@ returns c =
     (where_ok c.open.result c.is_err.result c.is_err.ensures.value c.if-is_err.false c.open.ensures s ∙ ap (λ t. inside t (Block c.args.name)) c.in-Ok-received_within.ensures)
     (c.function_body_of-body.ensures.is ∙ ap (function_body_of s.names) c.skip-2.ensures)
     (c.as_slice-inner.ensures.value ∙ written_whole _ _ c.in-Ok-finish.written.items _ c.new-written.ensures c.in-Ok-finish.ensures c.push_all.ensures)
-    c.count-forms.ensures
+    c.count-forms.ensures.is
     (ap (λ (t : Scope). t.depth) c.in-Ok-received_within.ensures ∙ within-depth s c.as_slice-bound.result.now)
     (λ q e. c.blocked_parts-blocked.ensures q e)
     (subst (λ m. Wrote c.args.nodes.now c.push_node.new.nodes (node (Defun c.args.name c.in-Ok-received_within.open.depth) c.args.place m ∷ [])) c.special_parts-parts.ensures c.push_node.ensures)

@@ -1,5 +1,5 @@
 use Rattle.std.proofs.Common.{arith}
-use Rattle.form_evaluator.proofs.Turned.{out_of_points, counted, stands-symbols}
+use Rattle.form_evaluator.proofs.Turned.{out_of_points, counted}
 use Rattle.form_evaluator.proofs.run.Run.go.Goals as goal
 
 pub turn-requires-clause-points : goal.turn-requires-clause-points
@@ -16,7 +16,3 @@ returns-then-not-branch c =
 
 pub returns : goal.returns
 returns c = λ f r. out_of_points _ _ f _ (c.loop-turn.invariant f r) c.loop-turn-test.false
-
-pub turn-requires-clause-symbols : goal.turn-requires-clause-symbols
-turn-requires-clause-symbols c =
-    let r = c.loop-turn.invariant c.requires.0 c.requires.1 in stands-symbols r.present _ r.stands

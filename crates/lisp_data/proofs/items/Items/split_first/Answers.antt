@@ -1,6 +1,6 @@
 use Rattle.std.proofs.Common.{SFits, w64, rules, ◌∙◌, sym}
 use Rattle.std.proofs.lemmas.Int.{to_z-of_z}
-use Rattle.lisp_data.proofs.Beside.{first_items, no_items, other_items, split_leaf, split_list}
+use Rattle.lisp_data.proofs.Beside.{few_items, first_items, no_items, other_items, split_leaf, split_list}
 use Rattle.lisp_data.proofs.items.Items.split_first.Goals as goal
 use Rattle.lisp_data.proofs.items.Items.split_first.Goals.{in-List, in-Int, in-Symbol, in-Text, in-Time}
 
@@ -25,3 +25,9 @@ returns-clause-some c =
       | in-Text w ↦ split_leaf _ _ _ _ _ w.first-is c.end_of-end.ensures w.in-Text.is
       | in-Time w ↦ split_leaf _ _ _ _ _ w.first-is c.end_of-end.ensures w.in-Time.is
     ]
+
+pub returns-then-self-eq0-clause-few : goal.returns-then-self-eq0-clause-few
+returns-then-self-eq0-clause-few c = rw (← c.self.view_is) (few_items _ _ c.self.invariant)
+
+pub returns-clause-few : goal.returns-clause-few
+returns-clause-few c = rw (← c.self.view_is) (few_items _ _ c.self.invariant)
