@@ -2,4 +2,15 @@
 #![tactic(auto)]
 
 #[cfg(test)]
-mod sessions;
+mod calls;
+#[cfg(test)]
+mod ends;
+#[cfg(test)]
+mod examples;
+#[cfg(test)]
+mod limits;
+#[cfg(test)]
+mod runs;
+pub mod sure;
+#[cfg(test)]
+mod tables;
