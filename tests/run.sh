@@ -122,6 +122,10 @@ try_builds_again() {
     local low=$copy/crates/low
     touch "$low/src/lib.rt"
     builds_again 'a source that is newer' crates/low/src/lib.rt
+    touch "$copy/crates/middle/src/lib.rt"
+    builds_again 'a source of a crate above that is newer' crates/middle/src/lib.rt
+    touch "$copy/crates/lisp_run/src/lib.rt"
+    builds_again 'a source of the program that is newer' crates/lisp_run/src/lib.rt
     touch -d '+1 day' "$low/src/lib.rt"
     builds_again 'a source whose time is still to come' crates/low/src/lib.rt
     touch "$low/src/lib.rt"
@@ -130,7 +134,7 @@ try_builds_again() {
     touch "$copy/crates.txt"
     builds_again 'a list of crates that is newer' crates.txt
     mkdir "$low/specs" && touch "$low/specs/Lib.antt"
-    builds_again 'a folder that is new' 'crates/low/specs*'
+    builds_again 'a source that is new' crates/low/specs/Lib.antt
     rm "$low/specs/Lib.antt"
     builds_again 'a source that was removed' crates/low/specs
     touch "$copy/crates/others/src/lib.rt" "$low/out" "$low/notes"
