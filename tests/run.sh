@@ -394,7 +394,7 @@ try_real_refusals() {
     really_refuses '15 RegionOutside at 0' '(allow-with-interrupts 1)' 1:1 'without-interrupts'
     really_refuses '16 NoSuchBlock at 6' '(loop)(return-from a 1)' 1:7 'block'
     really_refuses '17 TooMany at 0' "(+ $(repeat '1 ' 65))" 1:1 'limit'
-    really_refuses '18 DefinedTwice at 15' '(defvar *a* 1)\n(defvar *a* 2)' 2:1 'defined before'
+    really_refuses '18 DefinedTwice at 15' '(defvar *a* 1)\n(defvar *a* 2)' 2:1 'a second time'
 }
 
 run_named() { (exec -a $'\xff' "$lisp_run" "$@"); }
