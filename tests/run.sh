@@ -51,7 +51,7 @@ if [ -n "${REFUSAL-}" ]; then
 fi
 if [ -n "${WAITS_FOR-}" ]; then
     echo "$$"
-    for ((turn = 0; turn < 100; turn++)); do
+    for ((turn = 0; turn < 300; turn++)); do
         [ ! -e "$WAITS_FOR" ] || { echo 'it came' && exit; }
         sleep 0.1
     done
@@ -66,7 +66,7 @@ cat >"$work/bin/rt" <<'END'
 name=${PWD##*/}
 echo "$1 $name" >>"$CALLS"
 [ "${FAILS-}" != "$name" ] || { printf '%s\n' 'fn low::one: proved' 'fn low::two: not proved' 'the end'; exit 1; }
-[ "${WAITS-}" != "$name" ] || { echo "$$" >"$CALLS.waits" && exec sleep 30; }
+[ "${WAITS-}" != "$name" ] || { echo "$$" >"$CALLS.waits" && exec sleep 60; }
 [ "${EDITS-}" != "$name" ] || { sleep 0.1; echo '// edited' >>src/lib.rt; }
 [ "$1" != run ] || { mkdir -p out; cp "$STANDS_IN" out/new; mv out/new out/lisp_run; }
 END
@@ -90,8 +90,8 @@ try_first_build() {
     try 'help, before a build' 0 '~usage: ./run FILE*70  lisp_run could not be built; nothing was run' '' "$run" --help
     compare 'both: nothing is built' '' "$(calls)"
     FAILS=middle try 'a first build that fails' 70 '' "~run: lisp_run is not built yet: 3 crates are proved, *
-run: 0 of 3 crates proved, 0 min ? s: low
-run: 1 of 3 crates proved, 0 min ? s: middle
+run: 0 of 3 crates proved, * s: low
+run: 1 of 3 crates proved, * s: middle
 run: middle was not built. What rt says of it:
 fn low::two: not proved
 run: the end of what rt says:
@@ -100,10 +100,10 @@ fn low::two: not proved
 the end" "$run" one.lisp
     compare 'a first build that fails: calls' 'lib low,lib middle' "$(calls)"
     try 'a first build' 0 $'[]\n1' "~run: lisp_run is not built yet: 3 crates are proved, *
-run: 0 of 3 crates proved, 0 min ? s: low
-run: 1 of 3 crates proved, 0 min ? s: middle
-run: 2 of 3 crates proved, 0 min ? s: lisp_run
-run: 3 of 3 crates proved, 0 min ? s: lisp_run is built" "$run" one.lisp
+run: 0 of 3 crates proved, * s: low
+run: 1 of 3 crates proved, * s: middle
+run: 2 of 3 crates proved, * s: lisp_run
+run: 3 of 3 crates proved, * s: lisp_run is built" "$run" one.lisp
     compare 'a first build: calls' 'lib low,lib middle,run lisp_run' "$(calls)"
     try 'what is built' 0 $'[]\n1' '' "$run" one.lisp
     compare 'what is built: calls' '' "$(calls)"
@@ -122,6 +122,10 @@ try_builds_again() {
     local low=$copy/crates/low
     touch "$low/src/lib.rt"
     builds_again 'a source that is newer' crates/low/src/lib.rt
+    touch "$copy/crates/middle/src/lib.rt"
+    builds_again 'a source of a crate above that is newer' crates/middle/src/lib.rt
+    touch "$copy/crates/lisp_run/src/lib.rt"
+    builds_again 'a source of the program that is newer' crates/lisp_run/src/lib.rt
     touch -d '+1 day' "$low/src/lib.rt"
     builds_again 'a source whose time is still to come' crates/low/src/lib.rt
     touch "$low/src/lib.rt"
@@ -130,13 +134,14 @@ try_builds_again() {
     touch "$copy/crates.txt"
     builds_again 'a list of crates that is newer' crates.txt
     mkdir "$low/specs" && touch "$low/specs/Lib.antt"
-    builds_again 'a folder that is new' 'crates/low/specs*'
+    builds_again 'a source that is new' crates/low/specs/Lib.antt
     rm "$low/specs/Lib.antt"
     builds_again 'a source that was removed' crates/low/specs
     touch "$copy/crates/others/src/lib.rt" "$low/out" "$low/notes"
     try 'what is no source of lisp_run' 0 $'[]\n1' '' "$run" one.lisp
     touch "$low/src/lib.rt"
-    EDITS=low try 'a source that changes while it is built' 0 $'[]\n1' '~*is built' "$run" one.lisp
+    EDITS=low try 'a source that changes while it is built' 0 $'[]\n1' '~*is built' "$run" <one.lisp
+    compare 'after a build: nothing is left aside' '' "$(ls -A "$work/tmp")"
     calls >"$work/forgotten"
     builds_again 'a source that changed while it was built' crates/low/src/lib.rt
 }
@@ -160,10 +165,10 @@ fn low::two: not proved
     builds_again 'after builds that failed' crates/low/src/lib.rt
 }
 
-# Waits until a file has something in it, at most ten seconds, and prints it.
+# Waits until a file has something in it, at most thirty seconds, and prints it.
 wait_for() {
     local turn
-    for ((turn = 0; turn < 100; turn++)); do
+    for ((turn = 0; turn < 300; turn++)); do
         [ ! -s "$1" ] || { cat "$1" && return; }
         sleep 0.1
     done
@@ -187,22 +192,22 @@ stop_by() { # what is tried, the signal, - or nothing, the file that the started
 
 try_stopped() {
     local signal
-    for signal in TERM HUP INT; do
+    for signal in TERM HUP INT QUIT; do
         touch "$copy/crates/low/src/lib.rt"
         WAITS=middle stop_by 'a build' "$signal" "$(all_for "$signal")" "$CALLS.waits"
         compare "a build is stopped by $signal: calls" 'lib low,lib middle' "$(calls)"
     done
     builds_again 'builds that were stopped' crates/low/src/lib.rt
-    for signal in TERM INT; do
+    for signal in TERM INT QUIT; do
         WAITS_FOR=$work/none stop_by 'a run' "$signal" "$(all_for "$signal")" "$work/out"
     done
 }
-# Ctrl-C is for all that run in the terminal.
-all_for() { [ "$1" != INT ] || echo -; }
+# What is typed is for all that run in the terminal.
+all_for() { [[ $1 != @(INT|QUIT) ]] || echo -; }
 
 try_terminal() {
     touch "$copy/crates/low/src/lib.rt"
-    try 'a build at a terminal' 0 $'~*\rrun: 1 of 3 crates proved, 0 min ? s: middle *\rrun: 3 of 3 *is built *1*' '' \
+    try 'a build at a terminal' 0 $'~*\rrun: 1 of 3 crates proved, * s: middle *\rrun: 3 of 3 *is built *1*' '' \
         script -qec "'$run' one.lisp" "$work/forgotten"
     calls >"$work/forgotten"
 }
@@ -211,7 +216,7 @@ try_terminal() {
 
 run_piped() { printf '%s' "$1" | "$run"; }
 run_substituted() { "$run" <(printf '%s' "$1"); }
-count_bytes() { "$run" "$1" | wc -c; }
+count_bytes() { timeout 60 "$run" "$1" | wc -c; }
 first_line() { "$run" "$1" | head -n 1; }
 raise_flag_at_first_line() {
     local line
@@ -259,7 +264,7 @@ try_names() {
     try 'a link to a file' 0 $'[]\n1' '' "$run" /dev/stdin <one.lisp
     try 'a pipe' 0 $'[]\n4' '' run_substituted 4
     mkfifo named && (printf 5 >named &)
-    try 'a named pipe' 0 $'[]\n5' '' "$run" named
+    try 'a named pipe' 0 $'[]\n5' '' timeout 60 "$run" named
     try 'what has no end' 0 2097155 '' count_bytes /dev/zero
 }
 
@@ -389,7 +394,7 @@ try_real_refusals() {
     really_refuses '15 RegionOutside at 0' '(allow-with-interrupts 1)' 1:1 'without-interrupts'
     really_refuses '16 NoSuchBlock at 6' '(loop)(return-from a 1)' 1:7 'block'
     really_refuses '17 TooMany at 0' "(+ $(repeat '1 ' 65))" 1:1 'limit'
-    really_refuses '18 DefinedTwice at 15' '(defvar *a* 1)\n(defvar *a* 2)' 2:1 'defined before'
+    really_refuses '18 DefinedTwice at 15' '(defvar *a* 1)\n(defvar *a* 2)' 2:1 'a second time'
 }
 
 run_named() { (exec -a $'\xff' "$lisp_run" "$@"); }

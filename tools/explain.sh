@@ -19,13 +19,13 @@ case $number in
 9) why='this string is new, and the program has 4,096 strings before it, which is the limit' ;;
 10) why='the program is accepted, but this form is not run yet' ;;
 11) why='the head of this form is no operator or function, or this names no function of the program' ;;
-12) why='this form does not have its shape, stands where it may not, or binds, sets or defines a constant' ;;
+12) why='this form has a wrong shape or number of arguments, stands where it may not, or binds, sets or defines what is fixed' ;;
 13) why='this symbol is no variable' ;;
 14) why='a function stands outside the places for functions, or another form stands in such a place' ;;
 15) why='this form has no without-interrupts written round it in its function' ;;
 16) why='this form leaves a block that is not round it in its function' ;;
-17) why='this form passes a limit: 64 arguments or variables, 16 clauses, 256 special variables or 1,024 functions' ;;
-18) why='this name is defined before, is a name of the language, or stands twice in one list of variables' ;;
+17) why='this form passes a limit: 64 arguments, parameters or variables, 16 clauses, 256 special variables, 1,024 functions' ;;
+18) why='this form defines a name a second time, or a name of the language, or has a variable twice in one list' ;;
 *) why="the program is refused: ${BASH_REMATCH[2]}" ;;
 esac
 
