@@ -16,7 +16,7 @@ stack_after (Bind symbol word) bs = if nat_lt (length bs) BINDINGS then with_bin
 stack_after (Set symbol word) bs = with_word symbol word bs
 stack_after (UnbindTo height) bs = kept height bs
 
--- the stack after calls, the first in front
+-- the stack after these calls, in their order
 abbrev pub stack_after_all : List Call → List Bound → List Bound
 stack_after_all [] bs = bs
 stack_after_all (c ∷ calls) bs = stack_after_all calls (stack_after c bs)
@@ -27,7 +27,7 @@ environment_after (Bind symbol word) e = if nat_lt (length e.0) BINDINGS then bo
 environment_after (Set symbol word) e = (e.0, written symbol word e.0 e.1)
 environment_after (UnbindTo height) e = (outer height e.0, e.1)
 
--- the map and the store after calls, the first in front
+-- the map and the store after these calls, in their order
 abbrev pub environment_after_all : List Call → List Binding × List ℕ → List Binding × List ℕ
 environment_after_all [] e = e
 environment_after_all (c ∷ calls) e = environment_after_all calls (environment_after c e)

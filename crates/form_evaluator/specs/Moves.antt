@@ -98,7 +98,7 @@ popped_frame (f ∷ fs) e = unbound_to (length fs) (record e { frames = fs })
 abbrev pub room_in : Evaluator → Bool
 room_in e = nat_lt (length e.frames) 4096 && nat_lt (length e.bindings) 4096
 
--- a local point, by the step in front
+-- a local point, by the first step ahead
 abbrev pub step_after : Option Step → Evaluator → Evaluator
 step_after None e = e
 step_after (Some (Act act)) e = shown_after (result_of act e.values) e
@@ -128,7 +128,7 @@ asked_of (Write symbol) e = unless_bound (word_of symbol e.bindings) (Set symbol
 asked_of (Define symbol) e = Operation (Set symbol (top e.values))
 asked_of EndThread e = Operation (Finish (Returned (top e.values)))
 
--- what comes next, by the step in front
+-- what comes next, by the first step ahead
 abbrev pub step_next : Option Step → Evaluator → Next
 step_next None e = Nothing
 step_next (Some (Act act)) e = Local
@@ -172,7 +172,7 @@ test_reply_after Okay symbol skipped e = e
 test_reply_after (Value v) symbol skipped e = e
 test_reply_after Unbound symbol skipped e = e
 
--- a reply, by the step in front
+-- a reply, by the first step ahead
 abbrev pub step_reply : Option Step → Reply → Evaluator → Evaluator
 step_reply None reply e = e
 step_reply (Some (Act act)) reply e = e

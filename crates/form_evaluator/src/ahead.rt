@@ -37,7 +37,7 @@ impl Ahead {
         self.steps.get(self.at).copied()
     }
 
-    /// Leaves the next step behind, where there is one.
+    /// Passes over the next step, where there is one.
     pub(crate) fn advance(&mut self)
         ensures { self.new ≡ drop 1 self.old }
     {
@@ -46,7 +46,7 @@ impl Ahead {
         }
     }
 
-    /// Leaves so many steps behind, or all where there are fewer.
+    /// Passes over so many steps, or over all where there are fewer.
     pub(crate) fn skip(&mut self, count: usize)
         ensures { self.new ≡ drop count self.old }
     {
@@ -54,7 +54,7 @@ impl Ahead {
         self.at += count.min(left);
     }
 
-    /// Leaves all steps behind.
+    /// Passes over all steps.
     pub(crate) fn stop(&mut self)
         ensures { self.new ≡ [] }
     {

@@ -109,7 +109,7 @@ impl Evaluator {
         }
     }
 
-    /// Does an act, which is the step in front.
+    /// Does an act, which is the next step.
     pub(crate) fn act(&mut self, act: Act) -> Result<(), Memory>
         ensures { OnOk result (self.new ≡ shown_after (result_of act self.old.values) self.old) }
     {
@@ -158,7 +158,7 @@ impl Evaluator {
         self.values.clear();
     }
 
-    /// Ends.
+    /// The thread ends.
     pub(crate) fn end(&mut self)
         ensures { self.new ≡ ended_now self.old }
     {
@@ -231,7 +231,7 @@ impl Evaluator {
         }
     }
 
-    /// Binds a variable to the value that has so many others in front.
+    /// Binds a variable to the value with so many others before it.
     #[tactic(auto, using(crate::proofs::Bound::front_behind, crate::proofs::Bound::rest_behind))]
     fn bind(
         &mut self,
@@ -246,19 +246,19 @@ impl Evaluator {
         let front = self.values.take_front(alloc, above)?;
         let value = self.front_value();
         self.values.pop();
-        let behind = mem::replace(&mut self.values, front);
+        let others = mem::replace(&mut self.values, front);
         let new_place = self.store.len() as u64;
         self.store.push(value)?;
         self.frames.push(OpenFrame {
             place,
-            values: behind,
+            values: others,
         })?;
         let _ = self.bindings.bind(symbol, new_place);
         self.ahead.advance();
         Ok(())
     }
 
-    /// Takes the bindings of the forms that were left away.
+    /// Takes away the bindings of the forms that were left.
     #[tactic(auto, using(crate::proofs::Bound::kept_min))]
     fn unbind(&mut self)
         ensures { self.new ≡ unbound_to (length self.old.frames) self.old }

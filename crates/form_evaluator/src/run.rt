@@ -44,7 +44,7 @@ fn phase_after(phase: &Phase, op: &Op) -> Phase
     }
 }
 
-/// What an operation answers.
+/// The reply to an operation.
 fn reply_to(globals: &Sequence<SpecialVariable>, op: &Op) -> Reply
     ensures { result ≡ reply_by op.now globals.now }
 {

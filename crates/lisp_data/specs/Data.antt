@@ -55,7 +55,7 @@ written NoData = []
 written (Atom leaf p beside) = node_at (leaf_kind leaf) p ∷ written beside
 written (Listed p under beside) = node_at (AList (count_of under)) p ∷ (written under ++ written beside)
 
--- a node in front of data: a list takes as many of them as it has items
+-- a node before data: a list takes as many of them as it has items
 abbrev pub begun : DatumKind → ℕ → Data → Data
 begun (AList n) p d = Listed p (front n d) (behind n d)
 begun (AnInt z) p d = Atom (Int z) p d

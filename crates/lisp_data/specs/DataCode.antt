@@ -14,7 +14,7 @@ joined NoData e = e
 joined (Atom leaf p beside) e = Atom leaf p (joined beside e)
 joined (Listed p under beside) e = Listed p under (joined beside e)
 
--- with nothing behind
+-- with no data after them
 pub joined_none : (d : Data) → joined d NoData ≡ d
 joined_none NoData = refl
 joined_none (Atom leaf p beside) = ap (Atom leaf p) (joined_none beside)
@@ -32,14 +32,14 @@ behind_joined NoData e = refl
 behind_joined (Atom leaf p beside) e = behind_joined beside e
 behind_joined (Listed p under beside) e = behind_joined beside e
 
--- a leaf in front of data
+-- a leaf before data
 pub leaf_begun : (leaf : Leaf) (p : ℕ) (d : Data) → begun (leaf_kind leaf) p d ≡ Atom leaf p d
 leaf_begun (Int z) p d = refl
 leaf_begun (Symbol s) p d = refl
 leaf_begun (Text s) p d = refl
 leaf_begun (Time t) p d = refl
 
--- what is written for data in front of other nodes reads as these data in front of theirs
+-- what is written for data, with other nodes after it, reads as these data with theirs after them
 pub data_in_front : (d : Data) (ns : List DatumNode) → data_of (written d ++ ns) ≡ joined d (data_of ns)
 data_in_front NoData ns = refl
 data_in_front (Atom leaf p beside) ns = leaf_begun leaf p (data_of (written beside ++ ns)) ∙ ap (Atom leaf p) (data_in_front beside ns)

@@ -86,7 +86,7 @@ impl<'a> Items<'a> {
         Some((first, others))
     }
 
-    /// Those behind the first so many.
+    /// Those after the first so many.
     pub fn skip(&self, number: u32) -> Items<'a>
         ensures { result ≡ behind number self.now }
     {

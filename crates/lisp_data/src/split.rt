@@ -16,7 +16,7 @@ fn items(node: &DatumNode) -> u32
     }
 }
 
-/// The node behind the datum that begins at a node.
+/// The node after the datum that begins at a node.
 pub fn end_of(nodes: &[DatumNode], at: usize) -> usize
     requires whole { AreWhole (drop at nodes.now) }
     requires inside { at < length nodes.now }

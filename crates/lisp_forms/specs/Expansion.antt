@@ -30,7 +30,7 @@ use Rattle.lisp_forms.specs.Trees.{Expansion, Single, in_front, only, leaf, form
 pub record Parts : Type 0 where
   -- the arguments as forms, by what they are for
   pub arguments : Roles → Expansion
-  -- the arguments behind so many as a body, and all as forms, where these are open
+  -- the arguments after so many as a body, and all as forms, where these are open
   pub body : Scope → ℕ → Expansion
   pub forms : Scope → Expansion
   -- the forms in the list that is the first argument, where these are open
@@ -104,7 +104,7 @@ list_form s p shape.Timeout xs parts =
 list_form s p shape.Terminate xs parts = Rows.terminate_form p (parts.forms s)
 list_form s p (shape.Defun f) xs parts = refused 12 p
 
--- what is read by behind a variable of a `let*`
+-- what the rest of a `let*` is read by, after a variable
 abbrev pub behind_variable : Scope → Option ℕ → Scope
 behind_variable s None = s
 behind_variable s (Some x) = opened_by s x
@@ -128,7 +128,7 @@ is_none (Listed p under beside) = false
 abbrev pub leaf_single : Scope → Leaf → ℕ → Single
 leaf_single s l p = leaf (leaf_form s l) p
 
--- what one with a role stands for, in front of others
+-- what one with a role stands for, before others
 abbrev pub with_role : Role → (value placed : Single) → Expansion → Expansion
 with_role Value value placed fs = in_front value fs
 with_role Place value placed fs = in_front placed fs
@@ -172,7 +172,7 @@ abbrev mutual
       with_role (role_at roles i) (leaf_single s l p) (leaf (misplaced_kind (leaf_form s l)) p) (by_roles s roles (suc i) beside)
   by_roles s roles i (Listed p under beside) = with_role (role_at roles i) (listed s p under) (placed s p under) (by_roles s roles (suc i) beside)
 
-  -- those behind so many, as a body
+  -- those after so many, as a body
   pub body_in : Scope → ℕ → Data → Expansion
   body_in s n NoData = NoTrees
   body_in s (suc n) (Atom l p beside) = body_in s n beside
@@ -181,7 +181,7 @@ abbrev mutual
   body_in s zero (Listed p under beside) =
       if is_declaration s.names under then body_in s zero beside else in_front (listed s p under) (forms_in s beside)
 
-  -- those behind so many, as the body of a function
+  -- those after so many, as the body of a function
   pub function_body_in : Scope → ℕ → Data → Expansion
   function_body_in s n NoData = NoTrees
   function_body_in s (suc n) (Atom l p beside) = function_body_in s n beside
@@ -209,13 +209,13 @@ abbrev mutual
   values_in s (Atom l p beside) = in_front (nil_form p) (values_in s beside)
   values_in s (Listed p under beside) = in_front (first p (by_roles s (From 1) 0 under)) (values_in s beside)
 
-  -- the same of a `let*`, where each value is read behind the variables before it
+  -- the values of the bindings in the first, where each is read with the variables before it, as in a `let*`
   pub turn_first : Scope → Data → Expansion
   turn_first s NoData = NoTrees
   turn_first s (Atom l p beside) = NoTrees
   turn_first s (Listed p under beside) = turns_in s under
 
-  -- and of these bindings
+  -- the values of these bindings, each read with the variables before it
   pub turns_in : Scope → Data → Expansion
   turns_in s NoData = NoTrees
   turns_in s (Atom l p beside) = in_front (nil_form p) (turns_in (behind_variable s (leaf_symbol l)) beside)
@@ -247,7 +247,7 @@ abbrev mutual
   conds_in s p (Listed q under beside) =
       Rows.clause_of_cond s.depth p (forms_in s under) (conds_in s p beside) (conds_in (deeper s) p beside)
 
-  -- the clauses of a `handler-case` at a place, behind its form
+  -- the clauses of a `handler-case` at a place, after its form
   pub clauses_behind : Scope → ℕ → Data → Expansion
   clauses_behind s p NoData = NoTrees
   clauses_behind s p (Atom l q beside) = clauses_in s p beside

@@ -29,16 +29,16 @@ use Rattle.lisp_forms.specs.Expansion.{function_body_in, leaf_single, list_form,
 use Rattle.lisp_forms.specs.Rows.{defun_form, is_function}
 use Rattle.lisp_forms.specs.Trees.{Expansion, Single, in_front, refused}
 
--- what stands in front of a list, whatever the program defines
+-- what stands at the front of a list, whatever the program defines
 abbrev pub built_in : List (List ℕ) → Option ℕ → Option Operator
 built_in names None = None
 built_in names (Some x) = operator_named (name_of names x)
 
--- behind `defvar` stand a name, or a name and a value, or these and a string; whether it is a name is looked at apart
+-- after `defvar` comes a name, or a name and a value, or these and a string; whether it is a name is looked at apart
 abbrev pub is_definition : Data → Bool
 is_definition args = nat_lt (count_of args) 3 || ((count_of args == 3) && is_text_first (behind 2 args))
 
--- behind `defparameter` stand a name and a value, and there may be a string behind them
+-- after `defparameter` come a name and a value, and there may be a string after them
 abbrev pub is_parameter : Data → Bool
 is_parameter args = (count_of args == 2) || ((count_of args == 3) && is_text_first (behind 2 args))
 
@@ -79,7 +79,7 @@ function_of names NoData = None
 function_of names (Atom leaf p beside) = None
 function_of names (Listed p under beside) = function_in names under
 
--- a name behind others, where there is one and it is new
+-- a name after others, where there is one and it is new
 abbrev pub with_name : Option ℕ → List ℕ → List ℕ
 with_name None known = known
 with_name (Some x) known = if has known x then known else known ++ x ∷ []
@@ -113,7 +113,7 @@ definition_shape x by_defvar args =
     if by_defvar && (count_of args == 1) then shape.Leaf (Form (k.Constant (ASymbol x)))
     else shape.Over (if by_defvar then k.Defvar x else k.Defparameter x) (Just 1)
 
--- the same, where these variables are defined before it
+-- a definition of a variable, where these variables are defined before it
 abbrev pub variable_shape : List ℕ → ℕ → ℕ → (by_defvar : Bool) → Data → Shape
 variable_shape known p x by_defvar args =
     if has known x then shape.Wrong 18 p
@@ -181,7 +181,7 @@ top_form s known NoData = refused 11 0
 top_form s known (Atom leaf p beside) = leaf_single s leaf p
 top_form s known (Listed p under beside) = top_list s known p under
 
--- what is known behind a datum
+-- what is known after a datum
 abbrev pub known_behind : List (List ℕ) → Data → Known → Known
 known_behind names d known =
     record { variables = with_name (definition_of names d) known.variables; functions = with_name (function_of names d) known.functions }
@@ -270,7 +270,7 @@ core_forms NoTrees = NoTrees
 core_forms (Tree kind p under beside) =
     Tree (core_kind kind p) p (if is_function kind then NoTrees else core_forms under) (core_forms beside)
 
--- a function in front of others
+-- a function before others
 abbrev pub with_function : Expanded → ℕ → Forms → List Function → List Function
 with_function (Form kind) p body fs = fs
 with_function (Lambda parameters) p body fs = (record { name = At p; place = p; params = parameters; body = body }) ∷ fs
@@ -294,7 +294,7 @@ pub record Expands (names texts : List (List ℕ)) (ds : List Data) (program : P
 abbrev pub IsRefused : (names texts : List (List ℕ)) → List Data → ℕ → ℕ → Type 0
 IsRefused names texts ds number place = program_refusal (expansion_of names texts ds) ≡ refusal number place
 
--- a refusal says why data are refused; want of memory says nothing
+-- a refusal says why data are refused; it says nothing where memory runs out
 abbrev pub IsRefusal : (names texts : List (List ℕ)) → List Data → ExpandRefusal → Type 0
 IsRefusal names texts ds (RefusedProgram number place) = IsRefused names texts ds number place
 IsRefusal names texts ds Memory = Unit {0}

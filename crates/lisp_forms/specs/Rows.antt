@@ -37,7 +37,7 @@ if_form p test chosen other = form k.If p (three test chosen other)
 abbrev pub hidden_let : ℕ → ℕ → (value : Single) → (body : Expansion) → Single
 hidden_let x p value body = form k.Let p (both value (form (k.BindLocal x 0) p body))
 
--- the kind of a form that binds a variable to the value that has so many others in front, where so many are open
+-- the kind of a form that binds a variable to the value with so many others before it, where so many are open
 abbrev pub bind_kind : Scope → (depth x above : ℕ) → CoreKind
 bind_kind s depth x above = if has s.specials x then k.BindSpecial x above else k.BindLocal depth above
 
@@ -45,8 +45,8 @@ bind_kind s depth x above = if has s.specials x then k.BindSpecial x above else 
 abbrev pub bind_form : Scope → ℕ → (depth x above : ℕ) → Expansion → Single
 bind_form s p depth x above body = form (bind_kind s depth x above) p body
 
--- One binding in another, the first variable outermost. The values lie in order, so that of the first variable has those of all
--- others in front.
+-- One binding in another, the first variable outermost. The last value stands first, so the value of the first variable has
+-- those of all others before it.
 abbrev pub binds : Scope → ℕ → List ℕ → Expansion → Expansion
 binds s p [] body = body
 binds s p (x ∷ xs) body = only (bind_form s p s.depth x (length xs) (binds (opened_by s x) p xs body))
@@ -166,7 +166,7 @@ lowered_core n (k.AllowWithInterrupts x) = k.AllowWithInterrupts (less n x)
 lowered_core n (k.ClauseWith class x) = k.ClauseWith class (less n x)
 lowered_core n kind = kind
 
--- the same of what stands for a form
+-- what stands for a form, without the level with this number
 abbrev pub lowered_kind : ℕ → Expanded → Expanded
 lowered_kind n (Form kind) = Form (lowered_core n kind)
 lowered_kind n (Lambda parameters) = Lambda parameters
@@ -223,7 +223,7 @@ abbrev pub result_form : ℕ → (done : ℕ) → CoreKind → Option Single →
 result_form p done kind None = nil_form p
 result_form p done kind (Some result) = turn_form p done kind (only result)
 
--- a `dotimes` behind its number of turns, in its block with this number: hidden variables hold that and how many are done
+-- a `dotimes` after its number of turns, in its block with this number: hidden variables hold that and how many are done
 abbrev pub turns_form : Scope → ℕ → (x n : ℕ) → (body : Expansion) → (result : Option Single) → Single
 turns_form s p x n body result =
     let limit : ℕ = suc n in

@@ -17,7 +17,7 @@ pub record Single : Type 0 where
   pub place : ℕ
   pub under : Expansion
 
--- one in front of others
+-- one before others
 abbrev pub in_front : Single → Expansion → Expansion
 in_front t others = Tree t.kind t.place t.under others
 

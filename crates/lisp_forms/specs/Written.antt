@@ -23,12 +23,12 @@ use Rattle.lisp_forms.specs.Program.{core_kind, with_function}
 use Rattle.lisp_forms.specs.Rows.{bind_kind, is_function, is_return_to, lowered_kind, release_form}
 use Rattle.lisp_forms.specs.Trees.{Expansion, Single, first, nil_form, progn_form}
 
--- what `or` and `cond` write for a form in front of what is done where its value is NIL
+-- what `or` and `cond` write for a form before what is done where its value is NIL
 abbrev pub either_nodes : ℕ → ℕ → Single → List ExpandedNode
 either_nodes x p a =
     node (Form k.Let) p 2 ∷ (flat_one a ++ (node (Form (k.BindLocal x 0)) p 1 ∷ (node (Form k.If) p 3 ∷ (node (Form (k.Local x)) p 0 ∷ (node (Form (k.Local x)) p 0 ∷ [])))))
 
--- what a clause of `cond` writes in front of the other clauses
+-- what a clause of `cond` writes before the other clauses
 abbrev pub clause_nodes : ℕ → ℕ → Expansion → List ExpandedNode
 clause_nodes x p NoTrees = []
 clause_nodes x p (Tree kind q under NoTrees) = either_nodes x p (record { kind = kind; place = q; under = under })
@@ -42,7 +42,7 @@ bind_nodes s p forms [] = []
 bind_nodes s p forms (x ∷ []) = node (Form (bind_kind s s.depth x 0)) p forms ∷ []
 bind_nodes s p forms (x ∷ (y ∷ ys)) = node (Form (bind_kind s s.depth x (length (y ∷ ys)))) p 1 ∷ bind_nodes (opened_by s x) p forms (y ∷ ys)
 
--- how many forms are under a binding of a `let*` with these others behind it, where its body has so many
+-- how many forms are under a binding of a `let*` with these others after it, where its body has so many
 abbrev pub turn_parts : Data → ℕ → ℕ
 turn_parts others forms = if is_none others then forms else 1
 
@@ -51,7 +51,7 @@ abbrev pub turn : Scope → ℕ → ℕ → Option ℕ → Single → List Expan
 turn s p forms None value = []
 turn s p forms (Some x) value = node (Form k.Let) p 2 ∷ (flat_one value ++ (node (Form (bind_kind s s.depth x 0)) p forms ∷ []))
 
--- what a `let*` with these bindings has in front of its body, which has so many forms
+-- what a `let*` with these bindings has before its body, which has so many forms
 abbrev pub turn_nodes : Scope → ℕ → ℕ → Data → List ExpandedNode
 turn_nodes s p forms NoData = []
 turn_nodes s p forms (Atom l q beside) =
@@ -60,7 +60,7 @@ turn_nodes s p forms (Listed q under beside) =
     turn s p (turn_parts beside forms) (bound_in_list under) (first q (by_roles s (From 1) 0 under))
     ++ turn_nodes (behind_variable s (bound_in_list under)) p forms beside
 
--- what an `and` of these writes in front of the constants NIL at its end
+-- what an `and` of these writes before the constants NIL at its end
 abbrev pub and_front : ℕ → Expansion → List ExpandedNode
 and_front p NoTrees = []
 and_front p (Tree kind q under NoTrees) = flat_one (record { kind = kind; place = q; under = under })
@@ -87,7 +87,7 @@ turn_head p done kind body = node (Form k.Let) p 2 ∷ (node (Form (k.Local done
 abbrev pub lock_of : ℕ → Lock
 lock_of g = record { mutex = g; grabbed = suc g; region = suc (suc g); inside = suc (suc (suc g)) }
 
--- what binds the hidden variables of a lock and begins its region, behind the mutex
+-- what binds the hidden variables of a lock and begins its region, after the mutex
 abbrev pub region_nodes : Lock → ℕ → List ExpandedNode
 region_nodes l p =
     flat_one (nil_form p)
@@ -95,14 +95,14 @@ region_nodes l p =
     ∷ (node (Form (k.BindLocal l.grabbed 0)) p 1
     ∷ (node (Form (k.WithoutInterrupts l.region)) p 1 ∷ (node (Form k.UnwindProtect) p 2 ∷ (node (Form k.If) p 3 ∷ [])))))
 
--- what grabs the mutex of a lock, in front of its operands, of which there are so many with the mutex
+-- what grabs the mutex of a lock, before its operands, of which there are so many with the mutex
 abbrev pub grab_nodes : Lock → Bool → Bool → ℕ → ℕ → List ExpandedNode
 grab_nodes l waitp timeout operands p =
     node (Form (k.SetLocal l.grabbed)) p 1
     ∷ (node (Form (k.AllowWithInterrupts l.region)) p 1
     ∷ (node (Form (k.Serve (service.GrabMutex waitp timeout))) p operands ∷ (node (Form (k.Local l.mutex)) p 0 ∷ [])))
 
--- what a lock does where it has the mutex, and behind that its cleanup
+-- what a lock does where it has the mutex, and after that its cleanup
 abbrev pub locked_nodes : Lock → ℕ → Expansion → List ExpandedNode
 locked_nodes l p body =
     node (Form k.Progn) p 1
@@ -113,7 +113,7 @@ locked_nodes l p body =
 abbrev pub core_node : ExpandedNode → FormNode
 core_node n = record { kind = core_kind n.kind n.place; place = n.place; parts = if is_function n.kind then 0 else n.parts }
 
--- the number behind a variable of a `let`, which has this one: a special one has none
+-- the number after a variable of a `let`, which has this one: a special one has none
 abbrev pub number_behind : List ℕ → ℕ → ℕ → ℕ
 number_behind specials n x = if has specials x then n else n + 1
 
@@ -129,7 +129,7 @@ special_node specials p body i x xs =
     node (Form k.Let) p 2 ∷ (node (Form (k.Local i)) p 0 ∷ (node (Form (k.BindSpecial x 0)) p (special_parts specials body xs) ∷ []))
     else []
 
--- how many of the forms behind a node belong to a function, where so many of those from this node on do
+-- how many of the forms after a node belong to a function, where so many of those from this node on do
 abbrev pub skipped_behind : ℕ → ExpandedNode → ℕ
 skipped_behind zero n = if is_function n.kind then n.parts else 0
 skipped_behind (suc skipped) n = skipped + n.parts
@@ -160,7 +160,7 @@ abbrev pub core_here : ℕ → ExpandedNode → List FormNode
 core_here zero n = core_node n ∷ []
 core_here (suc skipped) n = []
 
--- how many forms are left behind a node
+-- how many forms are left after a node
 abbrev pub left_behind : (skipped left : ℕ) → ExpandedNode → ℕ
 left_behind (suc skipped) left n = left
 left_behind zero zero n = 0
@@ -172,7 +172,7 @@ cores_in skipped left [] = []
 cores_in skipped left (n ∷ ns) =
     if is_done skipped left then [] else core_here skipped n ++ cores_in (skipped_behind skipped n) (left_behind skipped left n) ns
 
--- the function that a node is, with these nodes behind it
+-- the function that a node is, with these nodes after it
 abbrev pub function_here : ExpandedNode → List ExpandedNode → List Function
 function_here n ns = with_function n.kind n.place (forms_of (cores_in 0 n.parts ns)) []
 

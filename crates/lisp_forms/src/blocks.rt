@@ -54,7 +54,7 @@ fn leaves_here(number: u32, skipped: u128, node: &ExpandedNode) -> bool
     skipped == 0 && is_return_to(number, &node.kind)
 }
 
-/// How many of the forms behind a node belong to a function, where so many of those from this node on do.
+/// How many of the forms after a node belong to a function, where so many of those from this node on do.
 pub fn skipped_behind(skipped: u128, node: &ExpandedNode) -> u128
     requires { skipped < 2 ^ 127 }
     ensures is { result ≡ behind_node skipped node.now }
@@ -94,7 +94,7 @@ fn lowered_core(number: u32, kind: CoreKind) -> CoreKind
     }
 }
 
-/// The same of what stands for a form.
+/// What stands for a form, without the level with this number.
 fn lowered_kind(number: u32, kind: Expanded) -> Expanded
     ensures { result ≡ Rows.lowered_kind number kind }
 {

@@ -109,7 +109,7 @@ fn push_bound(
     }
 }
 
-/// The kind of form that binds a variable, where so many are open, to the value that has so many in front.
+/// The kind of form that binds a variable, where so many are open, to the value with so many others before it.
 pub fn bind_kind(specials: &[SymbolId], depth: u32, variable: SymbolId, above: u32) -> CoreKind
     ensures { (s : Scope) → specials.now ≡ s.specials → result ≡ bind_kind_of s depth variable above }
 {
@@ -152,7 +152,7 @@ fn forms_under(above: u32, forms: u32) -> u32
     if above == 0 { forms } else { 1 }
 }
 
-/// The number behind a variable, which has this one: a special one has none.
+/// The number after a variable, which has this one: a special one has none.
 fn number_behind(specials: &[SymbolId], number: u32, variable: SymbolId) -> Result<u32, Memory>
     ensures { IfOk result (λ behind. behind ≡ number_behind specials.now number variable) }
 {
@@ -201,7 +201,7 @@ pub fn push_let_star(
     push_all(alloc, base, &open.levels, open.depth, body, nodes)
 }
 
-/// Writes what a `let*` of these variables with these bindings has in front of its body, which has so many forms.
+/// Writes what a `let*` of these variables with these bindings has before its body, which has so many forms.
 #[cycle(forms)]
 fn push_turns(
     alloc: Global,
@@ -235,7 +235,7 @@ fn push_turns(
     }
 }
 
-/// How many forms are under a binding of a `let*` with these others behind it, where its body has so many.
+/// How many forms are under a binding of a `let*` with these others after it, where its body has so many.
 #[tactic(auto, using(crate::proofs::Nesting::parts_of_last, crate::proofs::Nesting::parts_of_other))]
 fn turn_parts(others: &Items, body: u32) -> u32
     ensures { result ≡ turn_parts others.now body }

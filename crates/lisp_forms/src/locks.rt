@@ -51,7 +51,7 @@ fn lock_at(depth: u32) -> Result<Lock, Memory>
     })
 }
 
-/// Writes what binds the hidden variables of a lock and begins its region, behind the mutex.
+/// Writes what binds the hidden variables of a lock and begins its region, after the mutex.
 fn push_region(lock: &Lock, place: Place, nodes: &mut Writer<ExpandedNode>)
     ensures { Wrote nodes.old nodes.new (region_nodes lock.now place) }
 {
@@ -63,7 +63,7 @@ fn push_region(lock: &Lock, place: Place, nodes: &mut Writer<ExpandedNode>)
     push_form(CoreKind::If, place, 3, nodes)
 }
 
-/// Writes what grabs the mutex of a lock, in front of its operands, of which there are so many behind the mutex.
+/// Writes what grabs the mutex of a lock, before its operands, of which there are so many after the mutex.
 fn push_grab(
     lock: &Lock,
     waitp: bool,
@@ -81,7 +81,7 @@ fn push_grab(
     push_local(lock.mutex, place, nodes)
 }
 
-/// Writes what a lock does where it has the mutex: this body, with interruptions where they were allowed; and behind that its cleanup.
+/// Writes what a lock does where it has the mutex: this body, with interruptions where they were allowed; and after that its cleanup.
 #[cycle(forms)]
 fn push_locked_body(
     alloc: Global,
@@ -193,7 +193,7 @@ pub fn push_lock(
     push_locked_body(alloc, base, levels, lock.inside, &lock, place, body, nodes)
 }
 
-/// Writes whether the thread has the mutex already, in front of what grabs it where it has not.
+/// Writes whether the thread has the mutex already, before what grabs it where it has not.
 fn push_held(lock: &Lock, place: Place, nodes: &mut Writer<ExpandedNode>)
     ensures { Wrote nodes.old nodes.new (either_nodes lock.now.inside place (Rows.held_form lock.now.mutex place)) }
 {

@@ -103,7 +103,7 @@ pub fn push_dotimes(
     push_blocked(depth, place, 1, all.as_slice(), nodes)
 }
 
-/// Writes what a `dotimes` does behind its number of turns.
+/// Writes what a `dotimes` does after its number of turns.
 #[cycle(forms)]
 fn push_turns(
     alloc: Global,

@@ -13,7 +13,7 @@ use lisp_data::items::{First, Items};
 use std::alloc::Global;
 use symbol_table::symbols::Symbols;
 
-/// What stands in front of a list, whatever the program defines.
+/// What stands at the front of a list, whatever the program defines.
 pub fn built_in(symbols: &Symbols, head: Option<SymbolId>) -> Option<Operator>
     ensures { result ≡ Program.built_in symbols.now head }
 {
@@ -110,7 +110,7 @@ pub fn function_of(
     }
 }
 
-/// Puts a name behind others, where there is one and it is new.
+/// Puts a name after others, where there is one and it is new.
 pub fn add_name(name: Option<SymbolId>, known: &mut Vec<SymbolId>) -> Result<(), Memory>
     ensures { OnOk result (known.new.items ≡ Program.with_name name known.old.items) }
 {

@@ -32,7 +32,7 @@ use lisp_program::form::CoreKind;
 use lisp_program::function::{Primitive, Service};
 use std::alloc::Global;
 
-/// Writes a form of this kind with these under it, by what they are for, and NIL behind them.
+/// Writes a form of this kind with these under it, by what they are for, and NIL after them.
 #[cycle(forms)]
 pub fn push_over_nil(
     alloc: Global,
@@ -111,7 +111,7 @@ pub fn push_unless(
 }
 
 /// Writes what `or` and `cond` have in common: one as the value of a hidden variable, which is given where it is not
-/// NIL. Behind it comes what is done else.
+/// NIL. After it comes what is done otherwise.
 #[cycle(forms)]
 fn push_either(
     alloc: Global,
@@ -196,7 +196,7 @@ pub fn push_cond(
     push_nil(place, nodes)
 }
 
-/// Writes what a clause of `cond` with these adds in front of the other clauses.
+/// Writes what a clause of `cond` with these adds before the other clauses.
 #[cycle(forms)]
 fn push_clause(
     alloc: Global,

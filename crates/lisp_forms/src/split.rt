@@ -63,7 +63,7 @@ fn push_here(skipped: u128, node: &ExpandedNode, forms: &mut Vec<FormNode>) -> R
     push_core(node, forms)
 }
 
-/// How many forms are left behind a node, where so many of the forms from it on belong to a function.
+/// How many forms are left after a node, where so many of the forms from it on belong to a function.
 fn left_behind(skipped: u128, left: u128, node: &ExpandedNode) -> u128
     requires { left < 2 ^ 127 }
     ensures is { result ≡ left_behind skipped left node.now }
@@ -96,30 +96,30 @@ fn push_core(node: &ExpandedNode, forms: &mut Vec<FormNode>) -> Result<(), Memor
     Ok(())
 }
 
-/// Writes a function of this name with so many parameters, whose node is this one in front of those.
+/// Writes a function of this name with so many parameters, whose node is this one, with those after it.
 fn push_named(
     alloc: Global,
     name: FunctionName,
     params: u32,
     node: &ExpandedNode,
-    behind: &[ExpandedNode],
+    after: &[ExpandedNode],
     functions: &mut Vec<FunctionForm>,
 ) -> Result<(), Memory>
-    ensures { OnOk result (map function_of functions.new.items ≡ map function_of functions.old.items ++ (record { name = name; place = node.now.place; params = params; body = forms_of (cores_in 0 node.now.parts behind.now) }) ∷ []) }
+    ensures { OnOk result (map function_of functions.new.items ≡ map function_of functions.old.items ++ (record { name = name; place = node.now.place; params = params; body = forms_of (cores_in 0 node.now.parts after.now) }) ∷ []) }
 {
-    let body = core_forms(alloc, node.parts as u64, behind)?;
+    let body = core_forms(alloc, node.parts as u64, after)?;
     functions.push(FunctionForm::of(name, node.place, params, body))?;
     Ok(())
 }
 
-/// Writes the function that a node is, where it is one, in front of these nodes.
+/// Writes the function that a node is, where it is one, with these nodes after it.
 fn push_function(
     alloc: Global,
     node: &ExpandedNode,
-    behind: &[ExpandedNode],
+    after: &[ExpandedNode],
     functions: &mut Vec<FunctionForm>,
 ) -> Result<(), Memory>
-    ensures { OnOk result (map function_of functions.new.items ≡ map function_of functions.old.items ++ function_here node.now behind.now) }
+    ensures { OnOk result (map function_of functions.new.items ≡ map function_of functions.old.items ++ function_here node.now after.now) }
 {
     match node.kind {
         Expanded::Lambda(params) => {
@@ -128,7 +128,7 @@ fn push_function(
                 FunctionName::At(node.place),
                 params,
                 node,
-                behind,
+                after,
                 functions,
             )
         }
@@ -138,7 +138,7 @@ fn push_function(
                 FunctionName::Named(name),
                 params,
                 node,
-                behind,
+                after,
                 functions,
             )
         }

@@ -56,7 +56,7 @@ fn definition_shape(symbol: SymbolId, by_defvar: bool, count: u32) -> Shape
     Shape::Over(CoreKind::Defparameter(symbol), Roles::Just(1))
 }
 
-/// The same, where these variables are defined before it.
+/// A definition of a variable with so many arguments, where these variables are defined before it.
 fn variable_shape(
     known: &[SymbolId],
     place: Place,
@@ -258,7 +258,7 @@ fn push_top(
     }
 }
 
-/// Puts what a datum defines behind what is known.
+/// Adds what a datum defines to what is known.
 fn know(alloc: Global, symbols: &Symbols, datum: &Datum, known: &mut Known) -> Result<(), Memory>
     ensures { OnOk result (known_as known.new ≡ Program.known_behind symbols.now datum.now (known_as known.old)) }
 {
