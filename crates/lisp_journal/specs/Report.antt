@@ -77,7 +77,7 @@ abbrev pub lines_left : (is_done : Bool) → (symbols literals : List (List ℕ)
 lines_left is_done symbols literals forms number threads globals status =
     flat_map open_text forms ++ (thread_texts symbols literals number threads ++ (flat_map (global_text symbols literals) globals ++ cond is_done [] (end_text status)))
 
--- the same with its first line or without
+-- what is left to write of a report, with its first line or without
 abbrev pub report_left : (is_begun is_done : Bool) → (symbols literals : List (List ℕ)) → List OpenForm → (number : ℕ) → List ThreadLine → List Global → (status : ℕ) → List ℕ
 report_left true is_done symbols literals forms number threads globals status = lines_left is_done symbols literals forms number threads globals status
 report_left false is_done symbols literals forms number threads globals status = codes "report 1\n" ++ lines_left is_done symbols literals forms number threads globals status

@@ -47,7 +47,7 @@ fn push_cause(alloc: Global, names: &Names, text: &mut TextWriter, cause: Option
     }
 }
 
-/// Writes how a thread ended behind a text.
+/// Writes how a thread ended at the end of a text.
 pub(crate) fn push_ending(alloc: Global, names: &Names, text: &mut TextWriter, ending: Ending)
     ensures { Wrote text.old text.new (ending_text names.now.symbols.now names.now.texts.now ending) }
 {
@@ -85,7 +85,7 @@ fn characters_of(alloc: Global, names: &Names, printed: Printed) -> Result<Strin
     }
 }
 
-/// The same as a string in `"`.
+/// What is printed, as a string in `"`.
 fn string_of(alloc: Global, names: &Names, printed: Printed) -> Result<String, Memory>
     ensures { IfOk result (λ string. string_bytes string ≡ escaped_string (printed_characters names.now.symbols.now names.now.texts.now printed)) }
 {
@@ -124,7 +124,7 @@ fn push_op(alloc: Global, names: &Names, text: &mut TextWriter, op: Op)
     }
 }
 
-/// Writes a word and the name of a symbol behind a text.
+/// Writes a word and the name of a symbol at the end of a text.
 pub(crate) fn push_named(
     alloc: Global,
     names: &Names,

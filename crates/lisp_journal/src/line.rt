@@ -12,7 +12,7 @@ use lisp_base::value::{Node, Value};
 use lisp_reader::print::print_value;
 use std::alloc::Global;
 
-/// Writes a character on a line behind a text.
+/// Writes a character on a line, at the end of a text.
 fn push_character(text: &mut TextWriter, character: char)
     ensures { Wrote text.old text.new (flat_map line_byte (encode_utf8 character)) }
 {
@@ -22,7 +22,7 @@ fn push_character(text: &mut TextWriter, character: char)
     }
 }
 
-/// Writes characters on one line behind a text.
+/// Writes characters on one line, at the end of a text.
 pub(crate) fn push_on_line(text: &mut TextWriter, characters: &str)
     ensures { Wrote text.old text.new (on_line characters.now) }
 {
@@ -31,7 +31,7 @@ pub(crate) fn push_on_line(text: &mut TextWriter, characters: &str)
     }
 }
 
-/// Writes the escaped text of a value on one line behind a text.
+/// Writes the escaped text of a value on one line, at the end of a text.
 pub(crate) fn push_value(alloc: Global, names: &Names, text: &mut TextWriter, value: Value)
     ensures { Wrote text.old text.new (value_text names.now.symbols.now names.now.texts.now value) }
 {
@@ -41,14 +41,14 @@ pub(crate) fn push_value(alloc: Global, names: &Names, text: &mut TextWriter, va
     }
 }
 
-/// Writes the name of a symbol behind a text.
+/// Writes the name of a symbol at the end of a text.
 pub(crate) fn push_symbol(alloc: Global, names: &Names, text: &mut TextWriter, symbol: SymbolId)
     ensures { Wrote text.old text.new (value_text names.now.symbols.now names.now.texts.now (Symbol symbol)) }
 {
     push_value(alloc, names, text, Value::symbol(symbol))
 }
 
-/// Writes a condition behind a text.
+/// Writes a condition at the end of a text.
 pub(crate) fn push_condition(
     alloc: Global,
     names: &Names,

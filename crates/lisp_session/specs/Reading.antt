@@ -27,7 +27,7 @@ abbrev pub of_data : ExpandRefusal → Refusal
 of_data (RefusedData number place) = Refused number place
 of_data NoMemoryForForms = Memory
 
--- a refusal says why the bytes are no program; want of memory says nothing
+-- a refusal says why the bytes are no program; memory that ran out says nothing
 abbrev pub IsRefusal : List ℕ → Refusal → Type 0
 IsRefusal bytes (Refused number place) = IsRefused bytes number place
 IsRefusal bytes Memory = Unit {0}
@@ -43,7 +43,7 @@ pub record IsPlain (whole : Program) (forms : PlainForms) : Type 0 where
   pub built : first_unbuilt whole.forms ≡ None
   pub is : forms ≡ plain_forms whole.forms
 
--- the first form of a whole program that is not run yet; want of memory says nothing
+-- the first form of a whole program that is not run yet; memory that ran out says nothing
 abbrev pub IsUnbuilt : Program → Refusal → Type 0
 IsUnbuilt whole (Refused number place) = (first_unbuilt whole.forms ≡ Some place) × (number ≡ not_built)
 IsUnbuilt whole Memory = Unit {0}
