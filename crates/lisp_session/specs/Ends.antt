@@ -1,9 +1,10 @@
 -- How the inner steps of a top call end.
-use Rattle.std.specs.Prelude.{◌≡◌, ℕ, ◌<◌, ◌⊎◌, List, [], ◌++◌, Bool, true, false, Option, Some, None, length, take}
-use Rattle.std.specs.Io.KnownBytes.{Appends, Keeps}
+use Rattle.std.specs.Prelude.{◌≡◌, ℕ, List, [], ◌++◌, Bool, true, false, Option, Some, None}
+use Rattle.std.specs.Io.KnownBytes.{Keeps}
 use Rattle.lisp_edge.specs.Faults.{Rose}
 use Rattle.lisp_session.specs.Headline.{WereRead, WereTaken}
 use Rattle.lisp_session.specs.Answers.{Says, answer_status, answer_text}
+use Rattle.lisp_session.specs.Texts.{StopsWriting, WroteWhole}
 use Rattle.lisp_session.specs.declared.answer.Answer.{Answer}
 use Rattle.lisp_session.specs.declared.input.ReadFailure.{ReadFailure}
 use Rattle.lisp_session.specs.declared.input.ReadFailure.TheVariants as read
@@ -22,23 +23,6 @@ pub record StopsReading (left left' : Option (List ℕ)) (faults faults' : ℕ) 
   pub why : StopsRead faults faults' failure
   pub bytes : List ℕ
   pub were : WereTaken left left' bytes
-
--- why a write stopped: the sink failed, or memory ran out and no fault was counted
-abbrev pub StopsWrite : ℕ → ℕ → WriteFailure → Type 0
-StopsWrite faults faults' write.Fault = Rose faults faults'
-StopsWrite faults faults' write.Memory = faults' ≡ faults
-
--- a write stopped after a front of a text, shorter than the text
-pub record StopsWriting (held held' : Option (List ℕ)) (faults faults' : ℕ) (text : List ℕ) (failure : WriteFailure) : Type 0 where
-  pub why : StopsWrite faults faults' failure
-  pub count : ℕ
-  pub shorter : count < length text
-  pub sink : Appends held held' (take count text)
-
--- a whole text was written, and no fault was counted
-pub record WroteWhole (held held' : Option (List ℕ)) (faults faults' : ℕ) (text : List ℕ) : Type 0 where
-  pub sink : Appends held held' text
-  pub kept : faults' ≡ faults
 
 -- a page was written as a whole, and is empty now
 pub record TurnedPage (held held' : Option (List ℕ)) (faults faults' : ℕ) (page page' : Option (List ℕ)) : Type 0 where
