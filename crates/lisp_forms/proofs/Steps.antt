@@ -19,7 +19,7 @@ use Rattle.form_shapes.specs.declared.scope.Target.{Target}
 use Rattle.form_shapes.specs.Bindings.{body_of}
 use Rattle.form_shapes.specs.Keywords.{role_at}
 use Rattle.form_shapes.specs.One.{let_variables}
-use Rattle.form_shapes.specs.Scopes.{Scope, deeper, read_kind, set_kind, with_open}
+use Rattle.form_shapes.specs.Scopes.{Scope, deeper, set_kind, with_open}
 use Rattle.form_shapes.specs.Shapes.{shape_of}
 use Rattle.form_shapes.specs.Sizes.{size_of}
 use Rattle.lisp_forms.specs.Expansion.{body_in, by_roles, conds_in, forms_in, list_form, listed, ors_in, parts_in, with_role}
@@ -238,22 +238,23 @@ amount-behind : (s : Scope) (p : ℕ) (f : First) (args rest more : Data) → re
 amount-behind s p f args rest more is e = ap (Rows.amount p) (others-forms s args ∙ ap (forms_in s) (sym is ∙ e) ∙ forms-first s f more)
 
 -- an `incf` or `decf`
-pub change_steps : (s : Scope) (p : ℕ) (target : Target) (g : Primitive) (sets reads : CoreKind) (f : First) (args rest more : Data)
-    (old m1 m2 m3 new : List ExpandedNode) → rest ≡ behind 1 args → rest ≡ with_first f more → sets ≡ set_kind target → reads ≡ read_kind target
-    → m1 ≡ old ++ node (Form sets) p 1 ∷ [] → m2 ≡ m1 ++ node (Form (k.Apply g)) p 2 ∷ [] → m3 ≡ m2 ++ node (Form reads) p 0 ∷ []
+pub change_steps : (s : Scope) (p : ℕ) (target : Target) (g : Primitive) (sets : CoreKind) (f : First) (args rest more : Data)
+    (old m1 m2 m3 new : List ExpandedNode) → rest ≡ behind 1 args → rest ≡ with_first f more → sets ≡ set_kind target
+    → m1 ≡ old ++ node (Form sets) p 1 ∷ [] → m2 ≡ m1 ++ node (Form (k.Apply g)) p 2 ∷ [] → m3 ≡ m2 ++ flat_one (first p (forms_in s args))
     → new ≡ m3 ++ flat_one (first_form s f) → new ≡ old ++ flat_one (Rows.change_form p target g (forms_in s args))
-change_steps s p target g sets reads f args rest more old m1 m2 m3 new is e set read e1 e2 e3 h =
+change_steps s p target g sets f args rest more old m1 m2 m3 new is e set e1 e2 e3 h =
     let n1 : List ExpandedNode = node (Form sets) p 1 ∷ [] in
     let n2 : List ExpandedNode = node (Form (k.Apply g)) p 2 ∷ [] in
-    let n3 : List ExpandedNode = node (Form reads) p 0 ∷ [] in
+    let n3 : List ExpandedNode = flat_one (first p (forms_in s args)) in
     let written : m3 ≡ old ++ ((n1 ++ n2) ++ n3) = two_steps old m2 m3 (n1 ++ n2) n3 (two_steps old m1 m2 n1 n2 e1 e2) e3 in
     let am : Single = Rows.amount p (others (forms_in s args)) in
-    let last : flat_one (first_form s f) ≡ (flat_one am ++ []) ++ [] =
-    ap flat_one (sym (amount-behind s p f args rest more is e)) ∙ sym (append-nil (flat_one am)) ∙ sym (append-nil (flat_one am ++ [])) in
+    let last : flat_one (first_form s f) ≡ flat_one am ++ [] =
+    ap flat_one (sym (amount-behind s p f args rest more is e)) ∙ sym (append-nil (flat_one am)) in
+    let under : n3 ++ flat_one (first_form s f) ≡ (n3 ++ (flat_one am ++ [])) ++ [] =
+    ap (λ ns. n3 ++ ns) last ∙ sym (append-nil (n3 ++ (flat_one am ++ []))) in
     let all : ((n1 ++ n2) ++ n3) ++ flat_one (first_form s f) ≡ flat_one (Rows.change_form p target g (forms_in s args)) =
-    ap (λ m. node (Form m) p 1 ∷ (node (Form (k.Apply g)) p 2 ∷ (node (Form reads) p 0 ∷ flat_one (first_form s f)))) set
-    ∙ ap (λ m. node (Form (set_kind target)) p 1 ∷ (node (Form (k.Apply g)) p 2 ∷ (node (Form m) p 0 ∷ flat_one (first_form s f)))) read
-    ∙ ap (λ ns. node (Form (set_kind target)) p 1 ∷ (node (Form (k.Apply g)) p 2 ∷ (node (Form (read_kind target)) p 0 ∷ ns))) last in
+    ap (λ m. node (Form m) p 1 ∷ (node (Form (k.Apply g)) p 2 ∷ (n3 ++ flat_one (first_form s f)))) set
+    ∙ ap (λ ns. node (Form (set_kind target)) p 1 ∷ (node (Form (k.Apply g)) p 2 ∷ ns)) under in
     last_step old m3 new ((n1 ++ n2) ++ n3) (flat_one (first_form s f)) _ written all h
 
 -- one node more, in front or behind

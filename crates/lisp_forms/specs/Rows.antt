@@ -14,7 +14,7 @@ use Rattle.form_shapes.specs.declared.expanded.Expanded.{Expanded}
 use Rattle.form_shapes.specs.declared.expanded.Expanded.TheVariants.{Form, Lambda, Defun, Refused, RefusedFunction}
 use Rattle.form_shapes.specs.declared.scope.Target.{Target}
 use Rattle.form_shapes.specs.Bindings.{opened_by}
-use Rattle.form_shapes.specs.Scopes.{Scope, constant, has, read_kind, set_kind}
+use Rattle.form_shapes.specs.Scopes.{Scope, constant, has, set_kind}
 use Rattle.lisp_forms.specs.Trees.{Expansion, Single, in_front, only, both, three, leaf, form, nil_form, progn_form, first, others}
 
 -- a variable with this number
@@ -118,10 +118,9 @@ abbrev pub amount : ℕ → Expansion → Single
 amount p NoTrees = number_form (pos 1) p
 amount p (Tree kind q under beside) = record { kind = kind; place = q; under = under }
 
--- `incf` and `decf`
+-- `incf` and `decf`: the first of these reads the variable
 abbrev pub change_form : ℕ → Target → Primitive → Expansion → Single
-change_form p target g fs =
-    form (set_kind target) p (only (form (k.Apply g) p (both (form (read_kind target) p NoTrees) (amount p (others fs)))))
+change_form p target g fs = form (set_kind target) p (only (form (k.Apply g) p (both (first p fs) (amount p (others fs)))))
 
 -- a function of this and each of those, from the left
 abbrev pub folded : ℕ → Primitive → (sum : Single) → Expansion → Single

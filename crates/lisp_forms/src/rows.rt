@@ -20,7 +20,7 @@ use form_shapes::expanded::{Expanded, ExpandedNode};
 use form_shapes::keywords::{Roles, parts_of};
 use form_shapes::levels::{Levels, next};
 use form_shapes::refusal::UNKNOWN_VARIABLE;
-use form_shapes::scope::{Base, Target, read_kind, set_kind};
+use form_shapes::scope::{Base, Target, set_kind};
 use form_shapes::single::{is_list, place_by, rest};
 use form_shapes::within::target_within;
 use lisp_base::condition::Class;
@@ -392,7 +392,7 @@ pub fn push_change(
     let amount = rest(&arguments, 1);
     push_form(set_kind(&target), place, 1, nodes);
     push_form(CoreKind::Apply(function), place, 2, nodes);
-    push_form(read_kind(&target), place, 0, nodes);
+    push_head(alloc, base, levels, depth, place, arguments, nodes);
     match amount.split_first() {
         None => push_number(1, place, nodes),
         Some((first, _)) => push_first(alloc, base, levels, depth, first, nodes),

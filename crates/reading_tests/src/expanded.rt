@@ -287,7 +287,7 @@ fn parts_of_an_expansion_have_the_place_of_the_written_form(rt: HostRuntime) -> 
     check(
         &rt,
         rt.alloc(),
-        r#"cases: 33
+        r#"cases: 35
 ‹› => ‹›
 1 => 1@0
 "a" 1.5 => "a"@0 1.500000@4
@@ -311,7 +311,9 @@ fn parts_of_an_expansion_have_the_place_of_the_written_form(rt: HostRuntime) -> 
 (or) (or 1) (or 1 2) => NIL@0 1@9 (let@12 1@16 (bind@12 0 0 (if@12 (local@12 0) (local@12 0) 2@18)))
 (prog1 1 2) => (let@0 1@7 (bind@0 0 0 2@9 (local@0 0)))
 (let (x y) (setq x 1 y 2)) => (let@0 NIL@6 NIL@8 (bind@0 0 1 (bind@0 1 0 (progn@11 (set@11 0 1@19) (set@11 1 2@23)))))
-(let (x) (incf x)) => (let@0 NIL@6 (bind@0 0 0 (set@9 0 (+@9 (local@9 0) 1@9))))
+(let (x) (incf x)) => (let@0 NIL@6 (bind@0 0 0 (set@9 0 (+@9 (local@15 0) 1@9))))
+(incf x 2) (defvar x) => (set@0 X (+@0 (special@6 X) 2@8)) X@11
+(defvar s 1) (incf s 2) (decf s s) => (defvar@0 S 1@10) (set@13 S (+@13 (special@19 S) 2@21)) (set@24 S (-@24 (special@30 S) (special@32 S)))
 (block a (return-from a)) => (block@0 0 (return@9 0 NIL@9))
 (loop (return)) => (block@0 0 (while@0 T@0 (return@6 0 NIL@6)))
 (dotimes (i 3 i) 1) => (let@0 3@12 0@0 (bind@0 0 1 (bind@0 1 0 (while@0 (<@0 (local@0 1) (local@0 0)) (let@0 (local@0 1) (bind@0 2 0 1@17)) (set@0 1 (+@0 (local@0 1) 1@0))) (let@0 (local@0 1) (bind@0 2 0 (local@14 2))))))

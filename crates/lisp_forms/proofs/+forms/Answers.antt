@@ -222,9 +222,9 @@ rows::push_and-returns t c =
 
 pub rows::push_change-returns-in-Some : goal.rows::push_change-returns-in-Some
 rows::push_change-returns-in-Some t c =
-    wrote_same _ _ _ _ (wrote_both _ _ _ _ _ (wrote_both _ _ _ _ _ (wrote_both _ _ _ _ _ c.push_form.ensures c.push_form-2.ensures) c.push_form-3.ensures) c.push_first.ensures)
-    (change_steps (scope_at c.args.base.now c.args.levels.now c.args.depth) c.args.place c.args.target c.args.function _ _ c.in-Some.first c.args.arguments _ _ [] _ _ _ _
-    c.rest-amount.ensures.is c.in-Some.ensures.some c.set_kind.ensures c.read_kind.ensures refl refl refl refl)
+    wrote_same _ _ _ _ (wrote_both _ _ _ _ _ (wrote_both _ _ _ _ _ (wrote_both _ _ _ _ _ c.push_form.ensures c.push_form-2.ensures) c.push_head.ensures) c.push_first.ensures)
+    (change_steps (scope_at c.args.base.now c.args.levels.now c.args.depth) c.args.place c.args.target c.args.function _ c.in-Some.first c.args.arguments _ _ [] _ _ _ _
+    c.rest-amount.ensures.is c.in-Some.ensures.some c.set_kind.ensures refl refl refl refl)
 
 pub rows::push_clause-returns : goal.rows::push_clause-returns
 rows::push_clause-returns t c =
