@@ -11,7 +11,7 @@ use Rattle.form_shapes.specs.declared.expanded.Expanded.TheVariants.{Form, Lambd
 use Rattle.form_shapes.specs.declared.expanded.ExpandedNode.{ExpandedNode}
 use Rattle.lisp_forms.specs.Flat.{flat, node}
 use Rattle.lisp_forms.specs.Program.{core_forms, core_kind, functions_of, with_function}
-use Rattle.lisp_forms.specs.Rows.{is_function}
+use Rattle.lisp_forms.specs.Blocks.{is_function}
 use Rattle.lisp_forms.specs.Trees.{Expansion}
 use Rattle.lisp_forms.specs.Written.{core_here, core_node, cores_in, function_here, is_done, left_behind, skipped_behind}
 

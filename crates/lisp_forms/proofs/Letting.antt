@@ -12,7 +12,7 @@ use Rattle.form_shapes.specs.One.{items_first, let_variables}
 use Rattle.form_shapes.specs.Scopes.{Scope, leaf_symbol}
 use Rattle.lisp_forms.specs.Expansion.{body_in, forms_in, turn_first, values_first, values_in}
 use Rattle.lisp_forms.specs.Flat.{flat, flat_one, node}
-use Rattle.lisp_forms.specs.Rows.{bind_kind, binds, let_form, let_star_form}
+use Rattle.lisp_forms.specs.Rows.{bind_kind, binds, let_of, let_star_of}
 use Rattle.lisp_forms.specs.Trees.{Expansion, Single, progn_form}
 use Rattle.lisp_forms.specs.Written.{bind_nodes}
 use Rattle.lisp_forms.proofs.Parts.{body-forms, count-forms, count-joined, flat-joined, last_step, two_steps}
@@ -64,11 +64,11 @@ progn_nodes p n body fs one is same many =
     ap (λ m. node (Form Progn) p m ∷ flat fs) many ∙ sym (ap flat_one is ∙ ap (λ e. flat_one (progn_form p e)) same)
 
 -- without variables it is its body
-let-none : (s : Scope) (p : ℕ) (xs : List ℕ) (values body : Expansion) → length xs ≡ 0 → let_form s p xs values body ≡ progn_form p body
+let-none : (s : Scope) (p : ℕ) (xs : List ℕ) (values body : Expansion) → length xs ≡ 0 → let_of s p xs values body ≡ progn_form p body
 let-none s p [] values body h = refl
 let-none s p (x ∷ xs) values body h = absurd (omega (arith, h))
 
-let_star-none : (s : Scope) (p : ℕ) (xs : List ℕ) (values body : Expansion) → length xs ≡ 0 → let_star_form s p xs values body ≡ progn_form p body
+let_star-none : (s : Scope) (p : ℕ) (xs : List ℕ) (values body : Expansion) → length xs ≡ 0 → let_star_of s p xs values body ≡ progn_form p body
 let_star-none s p [] values body h = refl
 let_star-none s p (x ∷ xs) values body h = absurd (omega (arith, h))
 
@@ -84,14 +84,14 @@ none_written s o p n args rest body xs one old mid new only is opens behind begi
 pub let_of_none : (s : Scope) (o : Opened) (p n : ℕ) (args rest body : Data) (xs : List ℕ) (old mid new : List ExpandedNode)
     → length xs ≡ 0 → xs ≡ let_variables args → with_opened s o ≡ opened s xs → rest ≡ behind 1 args → body ≡ body_of s.names rest → n ≡ data_in body
     → mid ≡ old ++ node (Form Progn) p n ∷ [] → new ≡ mid ++ flat (forms_in (with_opened s o) body)
-    → new ≡ old ++ flat_one (let_form s p (let_variables args) (values_first s args) (body_in (opened s (let_variables args)) 1 args))
+    → new ≡ old ++ flat_one (let_of s p (let_variables args) (values_first s args) (body_in (opened s (let_variables args)) 1 args))
 let_of_none s o p n args rest body xs old mid new none is opens behind begins many before h =
     none_written s o p n args rest body xs _ old mid new (let-none s p (let_variables args) (values_first s args) _ (sym (ap length is) ∙ none)) is opens behind begins many before h
 
 pub let_star_of_none : (s : Scope) (o : Opened) (p n : ℕ) (args rest body : Data) (xs : List ℕ) (old mid new : List ExpandedNode)
     → length xs ≡ 0 → xs ≡ let_variables args → with_opened s o ≡ opened s xs → rest ≡ behind 1 args → body ≡ body_of s.names rest → n ≡ data_in body
     → mid ≡ old ++ node (Form Progn) p n ∷ [] → new ≡ mid ++ flat (forms_in (with_opened s o) body)
-    → new ≡ old ++ flat_one (let_star_form s p (let_variables args) (turn_first s args) (body_in (opened s (let_variables args)) 1 args))
+    → new ≡ old ++ flat_one (let_star_of s p (let_variables args) (turn_first s args) (body_in (opened s (let_variables args)) 1 args))
 let_star_of_none s o p n args rest body xs old mid new none is opens behind begins many before h =
     none_written s o p n args rest body xs _ old mid new (let_star-none s p (let_variables args) (turn_first s args) _ (sym (ap length is) ∙ none)) is opens behind begins many before h
 
@@ -104,7 +104,7 @@ flat-binds s p (x ∷ (y ∷ ys)) body =
 
 -- a `let` with a variable, written flat
 flat-let : (s : Scope) (p n k x : ℕ) (xs : List ℕ) (values body : Expansion) → n ≡ count_of values → k ≡ count_of body
-    → ((node (Form Let) p (n + 1) ∷ []) ++ (flat values ++ bind_nodes s p k (x ∷ xs))) ++ flat body ≡ flat_one (let_form s p (x ∷ xs) values body)
+    → ((node (Form Let) p (n + 1) ∷ []) ++ (flat values ++ bind_nodes s p k (x ∷ xs))) ++ flat body ≡ flat_one (let_of s p (x ∷ xs) values body)
 flat-let s p n k x xs values body many few =
     let all : n + 1 ≡ count_of (joined values (binds s p (x ∷ xs) body)) = ap (λ m. m + 1) many ∙ sym (count-joined values (binds s p (x ∷ xs) body)) in
     ap (λ ns. node (Form Let) p (n + 1) ∷ ns) (append_assoc (flat values) (bind_nodes s p k (x ∷ xs)) (flat body))
@@ -115,18 +115,18 @@ flat-let s p n k x xs values body many few =
 
 -- a `let` with variables
 some_written : (s : Scope) (p n k : ℕ) (xs : List ℕ) (values body v b : Expansion) → length xs ≢ 0 → v ≡ values → b ≡ body → n ≡ count_of values → k ≡ count_of body
-    → ((node (Form Let) p (n + 1) ∷ []) ++ (flat values ++ bind_nodes s p k xs)) ++ flat body ≡ flat_one (let_form s p xs v b)
+    → ((node (Form Let) p (n + 1) ∷ []) ++ (flat values ++ bind_nodes s p k xs)) ++ flat body ≡ flat_one (let_of s p xs v b)
 some_written s p n k [] values body v b some same under many few = absurd (some refl)
 some_written s p n k (x ∷ xs) values body v b some same under many few =
     flat-let s p n k x xs values body many few
-    ∙ sym (ap (λ e. flat_one (let_form s p (x ∷ xs) e b)) same ∙ ap (λ e. flat_one (let_form s p (x ∷ xs) values e)) under)
+    ∙ sym (ap (λ e. flat_one (let_of s p (x ∷ xs) e b)) same ∙ ap (λ e. flat_one (let_of s p (x ∷ xs) values e)) under)
 
 pub let_of_some : (s : Scope) (o : Opened) (p n k : ℕ) (args rest body bindings : Data) (xs : List ℕ) (old one two mid new : List ExpandedNode)
     → length xs ≢ 0 → xs ≡ let_variables args → with_opened s o ≡ opened s xs → rest ≡ behind 1 args → body ≡ body_of s.names rest → k ≡ data_in body
     → bindings ≡ items_first args → n ≡ data_in bindings
     → one ≡ old ++ node (Form Let) p (n + 1) ∷ [] → two ≡ one ++ flat (values_in s bindings) → mid ≡ two ++ bind_nodes s p k xs
     → new ≡ mid ++ flat (forms_in (with_opened s o) body)
-    → new ≡ old ++ flat_one (let_form s p (let_variables args) (values_first s args) (body_in (opened s (let_variables args)) 1 args))
+    → new ≡ old ++ flat_one (let_of s p (let_variables args) (values_first s args) (body_in (opened s (let_variables args)) 1 args))
 let_of_some s o p n k args rest body bindings xs old one two mid new some is opens behind begins few first many begun valued bound h =
     let t : Scope = with_opened s o in
     let top : List ExpandedNode = node (Form Let) p (n + 1) ∷ [] in
@@ -134,9 +134,9 @@ let_of_some s o p n k args rest body bindings xs old one two mid new some is ope
     let b : Expansion = body_in (opened s (let_variables args)) 1 args in
     let same : values_first s args ≡ values_in s bindings = values-items s args ∙ sym (ap (values_in s) first) in
     let under : b ≡ forms_in t body = body-opened s o xs args rest body is opens behind begins in
-    let all : (top ++ (values ++ bind_nodes s p k xs)) ++ flat (forms_in t body) ≡ flat_one (let_form s p (let_variables args) (values_first s args) b) =
+    let all : (top ++ (values ++ bind_nodes s p k xs)) ++ flat (forms_in t body) ≡ flat_one (let_of s p (let_variables args) (values_first s args) b) =
     some_written s p n k xs (values_in s bindings) (forms_in t body) (values_first s args) b some same under (many ∙ sym (count-values s bindings)) (few ∙ sym (count-forms t body))
-    ∙ ap (λ ys. flat_one (let_form s p ys (values_first s args) b)) is in
+    ∙ ap (λ ys. flat_one (let_of s p ys (values_first s args) b)) is in
     let front : mid ≡ old ++ (top ++ (values ++ bind_nodes s p k xs)) =
     two_steps old one mid top (values ++ bind_nodes s p k xs) begun (two_steps one two mid values (bind_nodes s p k xs) valued bound) in
     last_step old mid new (top ++ (values ++ bind_nodes s p k xs)) (flat (forms_in t body)) _ front all h

@@ -8,7 +8,7 @@ use Rattle.form_shapes.specs.declared.expanded.ExpandedNode.{ExpandedNode}
 use Rattle.lisp_forms.specs.declared.expander.Refusal.{Refusal}
 use Rattle.lisp_forms.specs.Flat.{flat}
 use Rattle.lisp_forms.specs.Program.{before, earlier, first_refusal, function_places, most_functions, past_limit, refusal_of}
-use Rattle.lisp_forms.specs.Rows.{is_function}
+use Rattle.lisp_forms.specs.Blocks.{is_function}
 use Rattle.lisp_forms.specs.Trees.{Expansion}
 use Rattle.lisp_forms.specs.Written.{one_before, place_here}
 

@@ -16,9 +16,9 @@ use Rattle.form_shapes.specs.Keywords.{parts_of}
 use Rattle.form_shapes.specs.One.{items_first}
 use Rattle.form_shapes.specs.Scopes.{Scope, deeper}
 use Rattle.lisp_forms.specs.declared.locks.Lock.{Lock}
-use Rattle.lisp_forms.specs.Expansion.{body_in, by_roles, forms_in, in_lock, within_first}
+use Rattle.lisp_forms.specs.Expansion.{body_in, by_roles, forms_in, within_first}
 use Rattle.lisp_forms.specs.Flat.{flat, flat_one, node}
-use Rattle.lisp_forms.specs.Rows.{either, grabbing, held_form, if_form, local, local_form, lock_form, locked, mutex_form, release_form, timeout_form, timer_form}
+use Rattle.lisp_forms.specs.Rows.{either, grabbing, held_form, if_form, local, local_form, locked, release_form, timeout_of, timer_form, in_lock}
 use Rattle.lisp_forms.specs.Trees.{Expansion, Single, both, first, form, in_front, nil_form, only, others, progn_form}
 use Rattle.lisp_forms.specs.Written.{either_nodes, grab_nodes, lock_of, locked_nodes, region_nodes}
 use Rattle.lisp_forms.proofs.Bodied.{body-is, one-of, three-of, three_steps, two-of}
@@ -47,7 +47,7 @@ lock_front g p mutex = node (Form k.Let) p 3 ∷ (flat_one mutex ++ region_nodes
 
 -- a lock is written in three parts
 flat-locked : (g p : ℕ) (mutex test : Single) (body : Expansion)
-    → (lock_front g p mutex ++ flat_one test) ++ locked_nodes (lock_of g) p body ≡ flat_one (locked g p mutex test body)
+    → (lock_front g p mutex ++ flat_one test) ++ locked_nodes (lock_of g) p body ≡ flat_one (locked g (suc g) (suc (suc g)) p mutex test body)
 flat-locked g p mutex test body =
     let h : ℕ = suc g in
     let r : ℕ = suc (suc g) in
@@ -75,7 +75,7 @@ flat-locked g p mutex test body =
 
 -- what grabs the mutex is written in two parts
 flat-grabbing : (g p n : ℕ) (waitp timeout : Bool) (operands : Expansion) → n ≡ suc (count_of operands)
-    → grab_nodes (lock_of g) waitp timeout n p ++ flat operands ≡ flat_one (grabbing g p waitp timeout operands)
+    → grab_nodes (lock_of g) waitp timeout n p ++ flat operands ≡ flat_one (grabbing g (suc g) (suc (suc g)) p waitp timeout operands)
 flat-grabbing g p n waitp timeout operands many =
     let grab : Single = form (k.Serve (service.GrabMutex waitp timeout)) p (in_front (local g p) operands) in
     let allowed : Single = form (k.AllowWithInterrupts (suc (suc g))) p (only grab) in
@@ -99,17 +99,28 @@ first-forms s args items is = ap (forms_in s) is ∙ sym (roles-from_0 s (items_
 first-roles : (s : Scope) (roles : Roles) (args items : Data) → items ≡ items_first args → by_roles s roles 0 items ≡ within_first s roles args
 first-roles s roles args items is = ap (by_roles s roles 0) is ∙ sym (within-items s roles args)
 
+-- what stands for a `with-mutex`, by the number of its first hidden variable
+abbrev mutex_tree : (g p : ℕ) (waitp timeout : Bool) (mutex : Single) (operands body : Expansion) → Single
+mutex_tree g p waitp timeout mutex operands body =
+    locked g (suc g) (suc (suc g)) p mutex (grabbing g (suc g) (suc (suc g)) p waitp timeout operands) body
+
+-- and for a `with-recursive-lock`
+abbrev lock_tree : (g p : ℕ) (mutex : Single) (body : Expansion) → Single
+lock_tree g p mutex body =
+    locked g (suc g) (suc (suc g)) p mutex
+    (either (suc (suc (suc g))) p (held_form g p) (grabbing g (suc g) (suc (suc g)) p false false NoTrees)) body
+
 -- a mutex, of its forms
 mutex_parts : (g p n : ℕ) (waitp timeout : Bool) (mutex : Single) (operands body : Expansion) (old a b d e f new : List ExpandedNode)
     → n ≡ suc (count_of operands) → a ≡ old ++ node (Form k.Let) p 3 ∷ [] → b ≡ a ++ flat_one mutex → d ≡ b ++ region_nodes (lock_of g) p
     → e ≡ d ++ grab_nodes (lock_of g) waitp timeout n p → f ≡ e ++ flat operands → new ≡ f ++ locked_nodes (lock_of g) p body
-    → new ≡ old ++ flat_one (mutex_form g p waitp timeout mutex operands body)
+    → new ≡ old ++ flat_one (mutex_tree g p waitp timeout mutex operands body)
 mutex_parts g p n waitp timeout mutex operands body old a b d e f new many first second third fourth fifth h =
     let front : List ExpandedNode = lock_front g p mutex in
     let grab : List ExpandedNode = grab_nodes (lock_of g) waitp timeout n p in
     let last : List ExpandedNode = locked_nodes (lock_of g) p body in
-    let all : (front ++ (grab ++ flat operands)) ++ last ≡ flat_one (mutex_form g p waitp timeout mutex operands body) =
-    ap (λ ns. (front ++ ns) ++ last) (flat-grabbing g p n waitp timeout operands many) ∙ flat-locked g p mutex (grabbing g p waitp timeout operands) body in
+    let all : (front ++ (grab ++ flat operands)) ++ last ≡ flat_one (mutex_tree g p waitp timeout mutex operands body) =
+    ap (λ ns. (front ++ ns) ++ last) (flat-grabbing g p n waitp timeout operands many) ∙ flat-locked g p mutex (grabbing g (suc g) (suc (suc g)) p waitp timeout operands) body in
     last_step old f new (front ++ (grab ++ flat operands)) last _
     (two_steps old d f front (grab ++ flat operands)
     (three_steps old a b d (node (Form k.Let) p 3 ∷ []) (flat_one mutex) (region_nodes (lock_of g) p) first second third) (two_steps d e f grab (flat operands) fourth fifth)) all h
@@ -122,7 +133,7 @@ pub mutex_steps : (base : Base) (levels : List Numbered) (g p count : ℕ) (wait
     → b ≡ a ++ flat_one (first p (forms_in (scope_at base levels g) items)) → d ≡ b ++ region_nodes l p → e ≡ d ++ grab_nodes l waitp timeout (count + 1) p
     → f ≡ e ++ flat (by_roles (scope_at base levels l.inside) (Values 1) 0 operands)
     → new ≡ f ++ locked_nodes l p (forms_in (scope_at base levels l.inside) body)
-    → new ≡ old ++ flat_one (mutex_form g p waitp timeout (first p (within_first (scope_at base levels g) (From 0) args))
+    → new ≡ old ++ flat_one (mutex_tree g p waitp timeout (first p (within_first (scope_at base levels g) (From 0) args))
     (within_first (in_lock (scope_at base levels g)) (Values 1) args) (body_in (in_lock (scope_at base levels g)) 1 args))
 mutex_steps base levels g p count waitp timeout l args items operands left body old a b d e f new is here there many from inside first' second third fourth fifth h =
     let s : Scope = scope_at base levels g in
@@ -141,16 +152,16 @@ mutex_steps base levels g p count waitp timeout l args items operands left body 
 lock_parts : (g p : ℕ) (mutex : Single) (body : Expansion) (old a b d e f new : List ExpandedNode)
     → a ≡ old ++ node (Form k.Let) p 3 ∷ [] → b ≡ a ++ flat_one mutex → d ≡ b ++ region_nodes (lock_of g) p
     → e ≡ d ++ either_nodes (lock_of g).inside p (held_form g p) → f ≡ e ++ grab_nodes (lock_of g) false false 1 p
-    → new ≡ f ++ locked_nodes (lock_of g) p body → new ≡ old ++ flat_one (lock_form g p mutex body)
+    → new ≡ f ++ locked_nodes (lock_of g) p body → new ≡ old ++ flat_one (lock_tree g p mutex body)
 lock_parts g p mutex body old a b d e f new first second third fourth fifth h =
     let front : List ExpandedNode = lock_front g p mutex in
     let x : ℕ = suc (suc (suc g)) in
     let held : List ExpandedNode = either_nodes x p (held_form g p) in
-    let grab : Single = grabbing g p false false NoTrees in
+    let grab : Single = grabbing g (suc g) (suc (suc g)) p false false NoTrees in
     let grabbed : List ExpandedNode = grab_nodes (lock_of g) false false 1 p in
     let last : List ExpandedNode = locked_nodes (lock_of g) p body in
     let same : grabbed ≡ flat_one grab = sym (append-nil grabbed) ∙ flat-grabbing g p 1 false false NoTrees refl in
-    let all : (front ++ (held ++ grabbed)) ++ last ≡ flat_one (lock_form g p mutex body) =
+    let all : (front ++ (held ++ grabbed)) ++ last ≡ flat_one (lock_tree g p mutex body) =
     ap (λ ns. (front ++ (held ++ ns)) ++ last) same ∙ ap (λ ns. (front ++ ns) ++ last) (flat-either x p (held_form g p) grab)
     ∙ flat-locked g p mutex (either x p (held_form g p) grab) body in
     last_step old f new (front ++ (held ++ grabbed)) last _
@@ -162,7 +173,7 @@ pub lock_steps : (base : Base) (levels : List Numbered) (g p : ℕ) (l : Lock) (
     → l ≡ lock_of g → items ≡ items_first args → left ≡ behind 1 args → body ≡ body_of base.symbols.now left → a ≡ old ++ node (Form k.Let) p 3 ∷ []
     → b ≡ a ++ flat_one (first p (forms_in (scope_at base levels g) items)) → d ≡ b ++ region_nodes l p → e ≡ d ++ either_nodes l.inside p (held_form l.mutex p)
     → f ≡ e ++ grab_nodes l false false 1 p → new ≡ f ++ locked_nodes l p (forms_in (scope_at base levels l.inside) body)
-    → new ≡ old ++ flat_one (lock_form g p (first p (within_first (scope_at base levels g) (From 0) args)) (body_in (in_lock (scope_at base levels g)) 1 args))
+    → new ≡ old ++ flat_one (lock_tree g p (first p (within_first (scope_at base levels g) (From 0) args)) (body_in (in_lock (scope_at base levels g)) 1 args))
 lock_steps base levels g p l args items left body old a b d e f new is here from inside first' second third fourth fifth h =
     let s : Scope = scope_at base levels g in
     let u : Scope = in_lock s in
@@ -180,7 +191,7 @@ flat-timeout : (g p : ℕ) (seconds : Single) (body : Expansion)
     ++ (((node (Form (k.Serve (service.ScheduleTimer false false))) p 2 ∷ []) ++ (flat_one (local g p) ++ flat_one seconds))
     ++ ((node (Form k.UnwindProtect) p 2 ∷ []) ++ (flat_one (progn_form p body) ++ (node (Form (k.Serve service.UnscheduleTimer)) p 1 ∷ [])))))
     ++ flat_one (local g p)
-    ≡ flat_one (timeout_form g p seconds body)
+    ≡ flat_one (timeout_of g p seconds body)
 flat-timeout g p seconds body =
     let here : List ExpandedNode = flat_one (local g p) in
     let stop : List ExpandedNode = node (Form (k.Serve service.UnscheduleTimer)) p 1 ∷ [] in
@@ -200,7 +211,7 @@ timeout_parts : (g p : ℕ) (seconds : Single) (body : Expansion) (old a b d e f
     → a ≡ old ++ node (Form k.Let) p 2 ∷ [] → b ≡ a ++ flat_one (timer_form p) → d ≡ b ++ node (Form (k.BindLocal g 0)) p 2 ∷ []
     → e ≡ d ++ node (Form (k.Serve (service.ScheduleTimer false false))) p 2 ∷ [] → f ≡ e ++ flat_one (local g p) → i ≡ f ++ flat_one seconds
     → j ≡ i ++ node (Form k.UnwindProtect) p 2 ∷ [] → m ≡ j ++ flat_one (progn_form p body) → n ≡ m ++ node (Form (k.Serve service.UnscheduleTimer)) p 1 ∷ []
-    → new ≡ n ++ flat_one (local g p) → new ≡ old ++ flat_one (timeout_form g p seconds body)
+    → new ≡ n ++ flat_one (local g p) → new ≡ old ++ flat_one (timeout_of g p seconds body)
 timeout_parts g p seconds body old a b d e f i j m n new s1 s2 s3 s4 s5 s6 s7 s8 s9 h =
     let here : List ExpandedNode = flat_one (local g p) in
     let bind : List ExpandedNode = node (Form (k.BindLocal g 0)) p 2 ∷ [] in
@@ -210,7 +221,7 @@ timeout_parts g p seconds body old a b d e f i j m n new s1 s2 s3 s4 s5 s6 s7 s8
     let begin : List ExpandedNode = (node (Form k.Let) p 2 ∷ []) ++ (flat_one (timer_form p) ++ bind) in
     let middle : List ExpandedNode = plan ++ (here ++ flat_one seconds) in
     let end : List ExpandedNode = protect ++ (flat_one (progn_form p body) ++ stop) in
-    last_step old n new (begin ++ (middle ++ end)) here (flat_one (timeout_form g p seconds body))
+    last_step old n new (begin ++ (middle ++ end)) here (flat_one (timeout_of g p seconds body))
     (three_steps old d i n begin middle end (three_steps old a b d (node (Form k.Let) p 2 ∷ []) (flat_one (timer_form p)) bind s1 s2 s3)
     (three_steps d e f i plan here (flat_one seconds) s4 s5 s6) (three_steps i j m n protect (flat_one (progn_form p body)) stop s7 s8 s9))
     (flat-timeout g p seconds body) h
@@ -223,7 +234,7 @@ pub timeout_steps : (base : Base) (levels : List Numbered) (g inner p : ℕ) (ar
     → i ≡ f ++ flat_one (first p (forms_in (scope_at base levels inner) args))
     → j ≡ i ++ node (Form k.UnwindProtect) p 2 ∷ [] → m ≡ j ++ flat_one (progn_form p (forms_in (scope_at base levels inner) left))
     → n ≡ m ++ node (Form (k.Serve service.UnscheduleTimer)) p 1 ∷ [] → new ≡ n ++ flat_one (local g p)
-    → new ≡ old ++ flat_one (timeout_form g p (first p (forms_in (deeper (scope_at base levels g)) args)) (others (forms_in (deeper (scope_at base levels g)) args)))
+    → new ≡ old ++ flat_one (timeout_of g p (first p (forms_in (deeper (scope_at base levels g)) args)) (others (forms_in (deeper (scope_at base levels g)) args)))
 timeout_steps base levels g inner p args left old a b d e f i j m n new next from s1 s2 s3 s4 s5 s6 s7 s8 s9 h =
     let u : Scope = deeper (scope_at base levels g) in
     let one : inner ≡ suc g = next ∙ add-one g in

@@ -15,9 +15,10 @@ use Rattle.form_shapes.specs.Bindings.{body_of, opened_by}
 use Rattle.form_shapes.specs.Contexts.{with_opened}
 use Rattle.form_shapes.specs.One.{items_first}
 use Rattle.form_shapes.specs.Scopes.{Scope, inside}
-use Rattle.lisp_forms.specs.Expansion.{body_in, forms_in, in_dotimes, in_turn, result_of, within_first}
+use Rattle.lisp_forms.specs.Expansion.{body_in, forms_in, within_first}
 use Rattle.lisp_forms.specs.Flat.{flat, flat_one, node}
-use Rattle.lisp_forms.specs.Rows.{bind_kind, blocked, dotimes_form, loop_form, lowered, more_form, number_form, result_form, returns_to, step_form, true_form, turn_form, turns_form}
+use Rattle.lisp_forms.specs.Blocks.{blocked, lowered, returns_to}
+use Rattle.lisp_forms.specs.Rows.{bind_kind, more_form, number_form, result_form, step_form, true_form, turn_form, turns_form, in_dotimes, in_turn, result_of}
 use Rattle.lisp_forms.specs.Trees.{Expansion, Single, both, first, form, in_front, only, second, three}
 use Rattle.lisp_forms.specs.Written.{turn_head}
 use Rattle.lisp_forms.proofs.Parts.{body-forms, count-forms, last_step, others-forms, roles-from_0, two_steps, within-items}
@@ -42,7 +43,7 @@ pub loop_written : (s : Scope) (o : Opened) (p name n : ℕ) (args body : Data) 
     → with_opened s o ≡ inside s (Block name) → name ≡ 0 → body ≡ body_of s.names args → n ≡ data_in body
     → all ≡ node (Form While) p (n + 1) ∷ (flat_one (true_form p) ++ flat (forms_in (with_opened s o) body))
     → ((e : Expansion) → all ≡ flat e → 1 ≡ count_of e → Wrote old new (flat (blocked s.depth p e)))
-    → Wrote old new (flat_one (loop_form s.depth p (body_in (inside s (Block 0)) 0 args)))
+    → Wrote old new (flat_one (first p (blocked s.depth p (only (form While p (in_front (true_form p) (body_in (inside s (Block 0)) 0 args)))))))
 loop_written s o p name n args body all old new opens nil begins many done h =
     let t : Scope = with_opened s o in
     let fs : Expansion = forms_in t body in
@@ -67,16 +68,16 @@ three_nodes p a b c = rw (append_assoc, append-nil) refl
 -- a `dotimes`
 pub dotimes_written : (s : Scope) (o : Opened) (p name x : ℕ) (args items rest : Data) (body : Expansion) (result : Option Single) (all : List ExpandedNode) (old new : Option (List ExpandedNode))
     → with_opened s o ≡ inside s (Block name) → name ≡ 0 → items ≡ items_first args → rest ≡ behind 1 items
-    → all ≡ ((node (Form Let) p 3 ∷ flat_one (first p (forms_in (with_opened s o) rest))) ++ flat_one (number_form (pos 0) p)) ++ flat_one (turns_form s p x s.depth body result)
+    → all ≡ ((node (Form Let) p 3 ∷ flat_one (first p (forms_in (with_opened s o) rest))) ++ flat_one (number_form (pos 0) p)) ++ flat_one (turns_form s p x body result)
     → ((e : Expansion) → all ≡ flat e → 1 ≡ count_of e → Wrote old new (flat (blocked s.depth p e)))
-    → Wrote old new (flat_one (dotimes_form s p x s.depth (second p (within_first (inside s (Block 0)) (From 0) args)) body result))
+    → Wrote old new (flat_one (first p (blocked s.depth p (only (form Let p (three (second p (within_first (inside s (Block 0)) (From 0) args)) (number_form (pos 0) p) (turns_form s p x body result)))))))
 dotimes_written s o p name x args items rest body result all old new opens nil is behind done h =
     let t : Scope = with_opened s o in
     let turns : Single = second p (within_first (inside s (Block 0)) (From 0) args) in
     let same : first p (forms_in t rest) ≡ turns =
     second-within t p args items rest is behind ∙ ap (λ u. second p (within_first u (From 0) args)) (opens ∙ ap (λ m. inside s (Block m)) nil) in
     let zero : Single = number_form (pos 0) p in
-    let inner : Single = turns_form s p x s.depth body result in
+    let inner : Single = turns_form s p x body result in
     blocked_one s.depth p (form Let p (in_front turns (in_front zero (only inner)))) all old new
     (done ∙ ap (λ a. ((node (Form Let) p 3 ∷ flat_one a) ++ flat_one zero) ++ flat_one inner) same ∙ three_nodes p turns zero inner) h
 
@@ -110,7 +111,7 @@ flat-turns p limit done k kind body result many =
 -- the numbers are those behind the block
 turns-same : (s : Scope) (p x limit done : ℕ) (kind : CoreKind) (body b : Expansion) (result r : Option Single)
     → limit ≡ suc s.depth → done ≡ suc (suc s.depth) → kind ≡ bind_kind s (suc (suc (suc s.depth))) x 0 → body ≡ b → result ≡ r
-    → flat_one (turns_of p limit done kind body result) ≡ flat_one (turns_form s p x s.depth b r)
+    → flat_one (turns_of p limit done kind body result) ≡ flat_one (turns_form s p x b r)
 turns-same s p x limit done kind body b result r h i j k l =
     let last : ℕ = suc (suc s.depth) in
     let bound : CoreKind = bind_kind s (suc last) x 0 in
@@ -125,7 +126,7 @@ pub turns_written : (s : Scope) (o o' : Opened) (p x limit done k : ℕ) (kind :
     → a ≡ old ++ node (Form (BindLocal limit 1)) p 1 ∷ [] → b ≡ a ++ node (Form (BindLocal done 0)) p 2 ∷ [] → c ≡ b ++ node (Form While) p 3 ∷ []
     → d ≡ c ++ flat_one (more_form p limit done) → e ≡ d ++ turn_head p done kind k → f ≡ e ++ flat (forms_in (with_opened s o') body) → g ≡ f ++ flat_one (step_form p done)
     → new ≡ g ++ flat_one (result_form p done kind (result_of (within_first (with_opened s o') (From 0) args)))
-    → new ≡ old ++ flat_one (turns_form s p x s.depth (body_in (in_turn s x) 1 args) (result_of (within_first (in_turn s x) (From 0) args)))
+    → new ≡ old ++ flat_one (turns_form s p x (body_in (in_turn s x) 1 args) (result_of (within_first (in_turn s x) (From 0) args)))
 turns_written s o o' p x limit done k kind args rest body old a b c d e f g new opens one two same inner behind begins many ha hb hc hd he hf hg h =
     let u : Scope = with_opened s o' in
     let fs : Expansion = forms_in u body in

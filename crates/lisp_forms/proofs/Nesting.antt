@@ -23,7 +23,7 @@ use Rattle.form_shapes.proofs.Openings.{next_of}
 use Rattle.lisp_forms.specs.Expansion.{behind_variable, body_in, by_roles, forms_in, turn_first, turns_in}
 use Rattle.lisp_forms.specs.Flat.{flat, flat_one, node}
 use Rattle.lisp_forms.specs.Firsts.{bound_value}
-use Rattle.lisp_forms.specs.Rows.{bind_form, bind_kind, let_star_form, nested}
+use Rattle.lisp_forms.specs.Rows.{bind_form, bind_kind, let_star_of, nested}
 use Rattle.lisp_forms.specs.Trees.{Expansion, Single, both, first, form, in_front, nil_form, only, others}
 use Rattle.lisp_forms.specs.Written.{turn, turn_nodes, turn_parts}
 use Rattle.lisp_forms.proofs.Letting.{body-opened}
@@ -137,16 +137,16 @@ bound-some args bindings [] some is first = absurd (some refl)
 bound-some args bindings (x ∷ xs) some is first = ap bound_in first ∙ bound-items args x xs (sym is)
 
 -- the first `let` has all others in it
-flat-star : (s : Scope) (p : ℕ) (xs : List ℕ) (values body : Expansion) → length xs ≢ 0 → flat_one (let_star_form s p xs values body) ≡ flat (nested s p xs values body)
+flat-star : (s : Scope) (p : ℕ) (xs : List ℕ) (values body : Expansion) → length xs ≢ 0 → flat_one (let_star_of s p xs values body) ≡ flat (nested s p xs values body)
 flat-star s p [] values body some = absurd (some refl)
-flat-star s p (x ∷ xs) values body some = sym (append-nil (flat_one (let_star_form s p (x ∷ xs) values body)))
+flat-star s p (x ∷ xs) values body some = sym (append-nil (flat_one (let_star_of s p (x ∷ xs) values body)))
 
 -- a `let*` with variables
 pub let_star_of_some : (s : Scope) (o : Opened) (p k : ℕ) (args rest body bindings : Data) (xs : List ℕ) (old mid new : Option (List ExpandedNode))
     → length xs ≢ 0 → xs ≡ let_variables args → with_opened s o ≡ opened s xs → rest ≡ behind 1 args → body ≡ body_of s.names rest → k ≡ data_in body
     → bindings ≡ items_first args → (bound_in bindings ≡ Some xs → Wrote old mid (turn_nodes s p k bindings))
     → Wrote mid new (flat (forms_in (with_opened s o) body))
-    → Wrote old new (flat_one (let_star_form s p (let_variables args) (turn_first s args) (body_in (opened s (let_variables args)) 1 args)))
+    → Wrote old new (flat_one (let_star_of s p (let_variables args) (turn_first s args) (body_in (opened s (let_variables args)) 1 args)))
 let_star_of_some s o p k args rest body bindings xs old mid new some is opens behind begins few first turned h =
     let t : Scope = with_opened s o in
     let fs : Expansion = forms_in t body in
@@ -154,10 +154,10 @@ let_star_of_some s o p k args rest body bindings xs old mid new some is opens be
     let under : b ≡ fs = body-opened s o xs args rest body is opens behind begins in
     let bound : bound_in bindings ≡ Some xs = bound-some args bindings xs some is first in
     let values : turns_in s bindings ≡ turn_first s args = ap (turns_in s) first ∙ sym (turns-items s args) in
-    let all : turn_nodes s p k bindings ++ flat fs ≡ flat_one (let_star_form s p (let_variables args) (turn_first s args) b) =
+    let all : turn_nodes s p k bindings ++ flat fs ≡ flat_one (let_star_of s p (let_variables args) (turn_first s args) b) =
     ap (λ n. turn_nodes s p n bindings ++ flat fs) (few ∙ sym (count-forms t body)) ∙ sym (flat-nested s p xs bindings fs bound)
     ∙ ap (λ v. flat (nested s p xs v fs)) values ∙ ap (λ e. flat (nested s p xs (turn_first s args) e)) (sym under)
-    ∙ sym (flat-star s p xs (turn_first s args) b some) ∙ ap (λ ys. flat_one (let_star_form s p ys (turn_first s args) b)) is in
+    ∙ sym (flat-star s p xs (turn_first s args) b some) ∙ ap (λ ys. flat_one (let_star_of s p ys (turn_first s args) b)) is in
     wrote_same old new (turn_nodes s p k bindings ++ flat fs) _ (wrote_both old mid new (turn_nodes s p k bindings) (flat fs) (turned bound) h) all
 
 -- the others are no larger

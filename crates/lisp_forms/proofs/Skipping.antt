@@ -8,7 +8,7 @@ use Rattle.lisp_program.specs.declared.form.CoreKind.TheVariants.{Block}
 use Rattle.form_shapes.specs.declared.expanded.Expanded.{Expanded}
 use Rattle.form_shapes.specs.declared.expanded.ExpandedNode.{ExpandedNode}
 use Rattle.lisp_forms.specs.Flat.{flat, node}
-use Rattle.lisp_forms.specs.Rows.{is_function, is_return_to, blocked, lowered, lowered_kind, returns_to}
+use Rattle.lisp_forms.specs.Blocks.{is_function, is_return_to, blocked, lowered, lowered_kind, returns_to}
 use Rattle.lisp_forms.specs.Trees.{Expansion, form, only}
 use Rattle.lisp_forms.specs.Written.{leaves_here, lowered_node, skipped_behind}
 

@@ -26,7 +26,7 @@ use Rattle.lisp_forms.specs.Expansion.{body_in, by_roles, conds_in, forms_in, li
 use Rattle.lisp_forms.specs.Flat.{flat, flat_one, node, repeated}
 use Rattle.lisp_forms.specs.Firsts.{first_form, first_placed}
 use Rattle.lisp_forms.specs.Rows
-use Rattle.lisp_forms.specs.Trees.{Expansion, Single, first, form, in_front, nil_form, only, others, progn_form}
+use Rattle.lisp_forms.specs.Trees.{Expansion, Single, first, form, in_front, nil_form, only, others, progn_form, both}
 use Rattle.lisp_forms.specs.Written.{and_front, clause_nodes, either_nodes}
 use Rattle.lisp_forms.proofs.Parts.{body-forms, count-forms, count-joined, flat-joined, forms-first, last_step, others-forms, two_steps}
 
@@ -71,7 +71,7 @@ if_steps p a b c old m1 m2 m3 new e1 e2 e3 h =
 pub when_steps : (s : Scope) (p : ℕ) (args body : Data) (old m1 m2 m3 new : List ExpandedNode)
     → body ≡ behind 1 args → m1 ≡ old ++ node (Form k.If) p 3 ∷ [] → m2 ≡ m1 ++ flat_one (first p (forms_in s args))
     → m3 ≡ m2 ++ flat_one (progn_form p (forms_in s body)) → new ≡ m3 ++ flat_one (nil_form p)
-    → new ≡ old ++ flat_one (Rows.when_form p (forms_in s args))
+    → new ≡ old ++ flat_one (Rows.if_form p (first p (forms_in s args)) (progn_form p (others (forms_in s args))) (nil_form p))
 when_steps s p args body old m1 m2 m3 new is e1 e2 e3 h =
     let same : progn_form p (forms_in s body) ≡ progn_form p (others (forms_in s args)) =
     ap (progn_form p) (ap (forms_in s) is ∙ sym (others-forms s args)) in
@@ -85,7 +85,7 @@ on_same new mid x y e h = h ∙ ap (λ ns. mid ++ ns) e
 pub unless_steps : (s : Scope) (p : ℕ) (args body : Data) (old m1 m2 m3 new : List ExpandedNode)
     → body ≡ behind 1 args → m1 ≡ old ++ node (Form k.If) p 3 ∷ [] → m2 ≡ m1 ++ flat_one (first p (forms_in s args))
     → m3 ≡ m2 ++ flat_one (nil_form p) → new ≡ m3 ++ flat_one (progn_form p (forms_in s body))
-    → new ≡ old ++ flat_one (Rows.unless_form p (forms_in s args))
+    → new ≡ old ++ flat_one (Rows.if_form p (first p (forms_in s args)) (nil_form p) (progn_form p (others (forms_in s args))))
 unless_steps s p args body old m1 m2 m3 new is e1 e2 e3 h =
     let same : progn_form p (forms_in s body) ≡ progn_form p (others (forms_in s args)) =
     ap (progn_form p) (ap (forms_in s) is ∙ sym (others-forms s args)) in
@@ -120,10 +120,11 @@ or_step s p n f left others old now new all e some so_far written deep =
     (ap (λ d. flat_one (ors_in s p d)) e ∙ flat-or s p f others some ∙ ap (λ m. one ++ flat_one (ors_in (with_open s s.levels m) p others)) (sym (deep ∙ add-one s.depth)))
 
 -- a clause of `cond` that is just a test, written flat
-flat-test : (x p : ℕ) (fs : Expansion) (rest inside : Single) → count_of fs ≡ 1 → flat_one (Rows.clause_of_cond x p fs rest inside) ≡ clause_nodes x p fs ++ flat_one inside
-flat-test x p NoTrees rest inside one = absurd (omega arith)
-flat-test x p (Tree kind q under NoTrees) rest inside one = flat-either x p _ inside
-flat-test x p (Tree kind q under (Tree kind' q' under' beside)) rest inside one = absurd (omega arith)
+flat-test : (s : Scope) (p : ℕ) (fs : Expansion) (rest : Scope → Single) → count_of fs ≡ 1
+    → flat_one (Rows.clause_of_cond s p fs rest) ≡ clause_nodes s.depth p fs ++ flat_one (rest (deeper s))
+flat-test s p NoTrees rest one = absurd (omega arith)
+flat-test s p (Tree kind q under NoTrees) rest one = flat-either s.depth p _ (rest (deeper s))
+flat-test s p (Tree kind q under (Tree kind' q' under' beside)) rest one = absurd (omega arith)
 
 -- one more such clause is written
 pub test_step : (s : Scope) (p q n : ℕ) (f : First) (under left others : Data) (old now new : Option (List ExpandedNode)) (all : List ExpandedNode) → left ≡ with_first f others → f ≡ ListFirst q under
@@ -134,7 +135,7 @@ test_step s p q n f under left others old now new all e is one so_far written de
     let one_form : count_of (forms_in s under) ≡ 1 = count-forms s under ∙ one in
     let clause : List ExpandedNode = clause_nodes s.depth p (forms_in s under) in
     writes_next old now new clause (flat_one (conds_in s p left)) (flat_one (conds_in (with_open s s.levels n) p others)) all so_far written
-    (ap (λ d. flat_one (conds_in s p d)) here ∙ flat-test s.depth p (forms_in s under) (conds_in s p others) (conds_in (deeper s) p others) one_form
+    (ap (λ d. flat_one (conds_in s p d)) here ∙ flat-test s p (forms_in s under) (λ inner. conds_in inner p others) one_form
     ∙ ap (λ m. clause ++ flat_one (conds_in (with_open s s.levels m) p others)) (sym (deep ∙ add-one s.depth)))
 
 -- a clause of a test and a body, written flat
@@ -144,13 +145,14 @@ flat-clause x p a NoTrees some = absurd (some refl)
 flat-clause x p a (Tree kind q under beside) some = refl
 
 -- a clause that is no test alone, with the clauses behind it
-flat-other : (x p : ℕ) (fs : Expansion) (rest inside : Single) → count_of fs ≢ 1 → flat_one (Rows.clause_of_cond x p fs rest inside) ≡ clause_nodes x p fs ++ flat_one rest
-flat-other x p NoTrees rest inside more = refl
-flat-other x p (Tree kind q under NoTrees) rest inside more = absurd (more refl)
-flat-other x p (Tree kind q under (Tree kind' q' under' beside)) rest inside more =
+flat-other : (s : Scope) (p : ℕ) (fs : Expansion) (rest : Scope → Single) → count_of fs ≢ 1
+    → flat_one (Rows.clause_of_cond s p fs rest) ≡ clause_nodes s.depth p fs ++ flat_one (rest s)
+flat-other s p NoTrees rest more = refl
+flat-other s p (Tree kind q under NoTrees) rest more = absurd (more refl)
+flat-other s p (Tree kind q under (Tree kind' q' under' beside)) rest more =
     let a : Single = record { kind = kind; place = q; under = under } in
     let b : List ExpandedNode = flat_one (progn_form p (Tree kind' q' under' beside)) in
-    ap (λ ns. node (Form k.If) p 3 ∷ (flat_one a ++ (b ++ ns))) (append-nil (flat_one rest)) ∙ ap (λ ns. node (Form k.If) p 3 ∷ ns) (sym (append_assoc (flat_one a) b (flat_one rest)))
+    ap (λ ns. node (Form k.If) p 3 ∷ (flat_one a ++ (b ++ ns))) (append-nil (flat_one (rest s))) ∙ ap (λ ns. node (Form k.If) p 3 ∷ ns) (sym (append_assoc (flat_one a) b (flat_one (rest s))))
 
 -- one more clause is written
 pub clause_step : (s : Scope) (p q : ℕ) (f : First) (under left others : Data) (old now new : Option (List ExpandedNode)) (all : List ExpandedNode) → left ≡ with_first f others → f ≡ ListFirst q under
@@ -160,7 +162,7 @@ clause_step s p q f under left others old now new all e is more so_far written =
     let here : left ≡ Listed q under others = e ∙ ap (λ g. with_first g others) is in
     writes_next old now new (clause_nodes s.depth p (forms_in s under)) (flat_one (conds_in s p left)) (flat_one (conds_in s p others)) all so_far written
     (ap (λ d. flat_one (conds_in s p d)) here
-    ∙ flat-other s.depth p (forms_in s under) (conds_in s p others) (conds_in (deeper s) p others) (λ one. more (sym (count-forms s under) ∙ one)))
+    ∙ flat-other s p (forms_in s under) (λ inner. conds_in inner p others) (λ one. more (sym (count-forms s under) ∙ one)))
 
 -- it is written in three steps
 pub clause_steps : (s : Scope) (x p : ℕ) (f : First) (under body : Data) (old m1 m2 new : List ExpandedNode)
@@ -183,7 +185,7 @@ abbrev nil_node : ℕ → ExpandedNode
 nil_node p = node (Form (k.Constant Rattle.lisp_program.specs.Points.nil)) p 0
 
 -- an `and`, written flat
-flat-and : (p n : ℕ) (fs : Expansion) → count_of fs ≡ suc n → flat_one (Rows.and_form p fs) ≡ and_front p fs ++ repeated n (nil_node p)
+flat-and : (p n : ℕ) (fs : Expansion) → count_of fs ≡ suc n → flat_one (Rows.and_of p fs) ≡ and_front p fs ++ repeated n (nil_node p)
 flat-and p n NoTrees many = absurd (omega arith)
 flat-and p zero (Tree kind q under NoTrees) many = sym (append-nil (flat_one (record { kind = kind; place = q; under = under })))
 flat-and p (suc n) (Tree kind q under NoTrees) many = absurd (omega (arith, many))
@@ -191,7 +193,7 @@ flat-and p zero (Tree kind q under (Tree kind' q' under' beside)) many = absurd 
 flat-and p (suc n) (Tree kind q under (Tree kind' q' under' beside)) many =
     let rest : Expansion = Tree kind' q' under' beside in
     let a : Single = record { kind = kind; place = q; under = under } in
-    let inner : flat_one (Rows.and_form p rest) ≡ and_front p rest ++ repeated n (nil_node p) = flat-and p n rest (omega (arith, many)) in
+    let inner : flat_one (Rows.and_of p rest) ≡ and_front p rest ++ repeated n (nil_node p) = flat-and p n rest (omega (arith, many)) in
     let nils : repeated n (nil_node p) ++ (nil_node p ∷ []) ≡ nil_node p ∷ repeated n (nil_node p) = repeated-end n (nil_node p) in
     ap (λ ns. node (Form k.If) p 3 ∷ (flat_one a ++ (ns ++ (nil_node p ∷ [])))) inner
     ∙ ap (λ ns. node (Form k.If) p 3 ∷ (flat_one a ++ ns)) (append_assoc (and_front p rest) (repeated n (nil_node p)) (nil_node p ∷ []) ∙ ap (λ ns. and_front p rest ++ ns) nils)
@@ -200,7 +202,7 @@ flat-and p (suc n) (Tree kind q under (Tree kind' q' under' beside)) many =
 -- the constants at its end are written
 pub and_end : (s : Scope) (p c n : ℕ) (args left : Data) (old now new : Option (List ExpandedNode)) → c ≡ data_in args → c ≢ 0
     → n ≡ c - 1 → left ≡ NoData → Writes old now (and_front p (forms_in s left)) (and_front p (forms_in s args))
-    → Wrote now new (repeated n (nil_node p)) → Wrote old new (flat_one (Rows.and_form p (forms_in s args)))
+    → Wrote now new (repeated n (nil_node p)) → Wrote old new (flat_one (Rows.and_of p (forms_in s args)))
 and_end s p c n args left old now new many some less none so_far h =
     let count : count_of (forms_in s args) ≡ suc n = count-forms s args ∙ omega (arith, many, some, less) in
     let front : List ExpandedNode = and_front p (forms_in s args) in
@@ -213,7 +215,7 @@ pub prog1_steps : (s : Scope) (x p n c : ℕ) (args rest body : Data) (old m1 m2
     → n ≡ s.depth + 1 → rest ≡ behind 1 args → body ≡ body_of s.names rest → c ≡ data_in body → m1 ≡ old ++ node (Form k.Let) p 2 ∷ []
     → m2 ≡ m1 ++ flat_one (first p (forms_in s args)) → m3 ≡ m2 ++ node (Form (k.BindLocal x 0)) p (c + 1) ∷ []
     → m4 ≡ m3 ++ flat (forms_in (with_open s s.levels n) body) → new ≡ m4 ++ flat_one (Rows.local x p)
-    → new ≡ old ++ flat_one (Rows.prog1_form x p (first p (forms_in s args)) (body_in (deeper s) 1 args))
+    → new ≡ old ++ flat_one (Rows.hidden_let x p (first p (forms_in s args)) (joined (body_in (deeper s) 1 args) (only (Rows.local x p))))
 prog1_steps s x p n c args rest body old m1 m2 m3 m4 new deep behind_it is many e1 e2 e3 e4 h =
     let a : Single = first p (forms_in s args) in
     let fs : Expansion = forms_in (deeper s) body in
@@ -226,11 +228,11 @@ prog1_steps s x p n c args rest body old m1 m2 m3 m4 new deep behind_it is many 
     two_steps old m3 m4 ((n1 ++ flat_one a) ++ n2) (flat fs) (two_steps old m2 m3 (n1 ++ flat_one a) n2 (two_steps old m1 m2 n1 (flat_one a) e1 e2) e3) e5 in
     let l : List ExpandedNode = flat_one (Rows.local x p) in
     let j : Expansion = joined fs (only (Rows.local x p)) in
-    let all : (((n1 ++ flat_one a) ++ n2) ++ flat fs) ++ l ≡ flat_one (Rows.prog1_form x p a fs) =
+    let all : (((n1 ++ flat_one a) ++ n2) ++ flat fs) ++ l ≡ flat_one (Rows.hidden_let x p a (joined fs (only (Rows.local x p)))) =
     append_assoc ((n1 ++ flat_one a) ++ n2) (flat fs) l ∙ append_assoc (n1 ++ flat_one a) n2 (flat fs ++ l)
     ∙ ap (λ ns. node (Form k.Let) p 2 ∷ (flat_one a ++ (node (Form (k.BindLocal x 0)) p (c + 1) ∷ ns))) (sym (append-nil (flat j) ∙ flat-joined fs (only (Rows.local x p))))
     ∙ ap (λ m. node (Form k.Let) p 2 ∷ (flat_one a ++ (node (Form (k.BindLocal x 0)) p m ∷ (flat j ++ [])))) (sym count) in
-    last_step old m4 new (((n1 ++ flat_one a) ++ n2) ++ flat fs) (flat_one (Rows.local x p)) _ written (all ∙ ap (λ b. flat_one (Rows.prog1_form x p a b)) (sym same)) h
+    last_step old m4 new (((n1 ++ flat_one a) ++ n2) ++ flat fs) (flat_one (Rows.local x p)) _ written (all ∙ ap (λ b. flat_one (Rows.hidden_let x p a (joined b (only (Rows.local x p))))) (sym same)) h
 
 -- how much is changed, where it is written
 amount-behind : (s : Scope) (p : ℕ) (f : First) (args rest more : Data) → rest ≡ behind 1 args → rest ≡ with_first f more
@@ -241,7 +243,7 @@ amount-behind s p f args rest more is e = ap (Rows.amount p) (others-forms s arg
 pub change_steps : (s : Scope) (p : ℕ) (target : Target) (g : Primitive) (sets : CoreKind) (f : First) (args rest more : Data)
     (old m1 m2 m3 new : List ExpandedNode) → rest ≡ behind 1 args → rest ≡ with_first f more → sets ≡ set_kind target
     → m1 ≡ old ++ node (Form sets) p 1 ∷ [] → m2 ≡ m1 ++ node (Form (k.Apply g)) p 2 ∷ [] → m3 ≡ m2 ++ flat_one (first p (forms_in s args))
-    → new ≡ m3 ++ flat_one (first_form s f) → new ≡ old ++ flat_one (Rows.change_form p target g (forms_in s args))
+    → new ≡ m3 ++ flat_one (first_form s f) → new ≡ old ++ flat_one (form (set_kind target) p (only (form (k.Apply g) p (both (first p (forms_in s args)) (Rows.amount p (others (forms_in s args)))))))
 change_steps s p target g sets f args rest more old m1 m2 m3 new is e set e1 e2 e3 h =
     let n1 : List ExpandedNode = node (Form sets) p 1 ∷ [] in
     let n2 : List ExpandedNode = node (Form (k.Apply g)) p 2 ∷ [] in
@@ -252,7 +254,7 @@ change_steps s p target g sets f args rest more old m1 m2 m3 new is e set e1 e2 
     ap flat_one (sym (amount-behind s p f args rest more is e)) ∙ sym (append-nil (flat_one am)) in
     let under : n3 ++ flat_one (first_form s f) ≡ (n3 ++ (flat_one am ++ [])) ++ [] =
     ap (λ ns. n3 ++ ns) last ∙ sym (append-nil (n3 ++ (flat_one am ++ []))) in
-    let all : ((n1 ++ n2) ++ n3) ++ flat_one (first_form s f) ≡ flat_one (Rows.change_form p target g (forms_in s args)) =
+    let all : ((n1 ++ n2) ++ n3) ++ flat_one (first_form s f) ≡ flat_one (form (set_kind target) p (only (form (k.Apply g) p (both (first p (forms_in s args)) (Rows.amount p (others (forms_in s args))))))) =
     ap (λ m. node (Form m) p 1 ∷ (node (Form (k.Apply g)) p 2 ∷ (n3 ++ flat_one (first_form s f)))) set
     ∙ ap (λ ns. node (Form (set_kind target)) p 1 ∷ (node (Form (k.Apply g)) p 2 ∷ ns)) under in
     last_step old m3 new ((n1 ++ n2) ++ n3) (flat_one (first_form s f)) _ written all h
@@ -277,7 +279,7 @@ flat-folded p g sum (Tree kind q under beside) =
     ∙ repeated-next (count_of beside) (two g p) (flat_one sum ++ flat (Tree kind q under beside))
 
 -- a fold of several
-flat-fold : (p n : ℕ) (g : Primitive) (fs : Expansion) → count_of fs ≡ suc (suc n) → flat_one (Rows.fold_form p g fs) ≡ repeated (suc n) (two g p) ++ flat fs
+flat-fold : (p n : ℕ) (g : Primitive) (fs : Expansion) → count_of fs ≡ suc (suc n) → flat_one (Rows.fold_of p g fs) ≡ repeated (suc n) (two g p) ++ flat fs
 flat-fold p n g NoTrees many = absurd (omega arith)
 flat-fold p n g (Tree kind q under NoTrees) many = absurd (omega arith)
 flat-fold p n g (Tree kind q under (Tree kind' q' under' beside)) many =
@@ -286,7 +288,7 @@ flat-fold p n g (Tree kind q under (Tree kind' q' under' beside)) many =
     ∙ ap (λ m. repeated m (two g p) ++ (flat_one (record { kind = kind; place = q; under = under }) ++ flat (Tree kind' q' under' beside))) left
 
 pub fold_steps : (s : Scope) (p c : ℕ) (g : Primitive) (args : Data) (old mid new : List ExpandedNode) → c ≡ data_in args → c ≢ 0 → c ≢ 1
-    → mid ≡ old ++ repeated (c - 1) (two g p) → new ≡ mid ++ flat (forms_in s args) → new ≡ old ++ flat_one (Rows.fold_form p g (forms_in s args))
+    → mid ≡ old ++ repeated (c - 1) (two g p) → new ≡ mid ++ flat (forms_in s args) → new ≡ old ++ flat_one (Rows.fold_of p g (forms_in s args))
 fold_steps s p zero g args old mid new many some more e h = absurd (some refl)
 fold_steps s p (suc zero) g args old mid new many some more e h = absurd (more refl)
 fold_steps s p (suc (suc n)) g args old mid new many some more e h =

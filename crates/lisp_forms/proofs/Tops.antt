@@ -15,7 +15,8 @@ use Rattle.form_shapes.specs.Scopes.{Scope}
 use Rattle.lisp_forms.specs.Expansion.{forms_in, function_body_in, list_form, parts_in}
 use Rattle.lisp_forms.specs.Flat.{flat, flat_one, node}
 use Rattle.lisp_forms.specs.Program.{Known, known_behind, scope_of_defun, top_form, top_forms, top_list_form}
-use Rattle.lisp_forms.specs.Rows.{blocked, defun_form}
+use Rattle.lisp_forms.specs.Blocks.{blocked}
+use Rattle.lisp_forms.specs.Rows.{defun_form}
 use Rattle.lisp_forms.specs.Trees.{Expansion}
 use Rattle.lisp_forms.specs.Written.{special_nodes, special_parts}
 use Rattle.lisp_forms.proofs.Parts.{count-forms}

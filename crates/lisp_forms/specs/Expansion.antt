@@ -22,86 +22,42 @@ use Rattle.form_shapes.specs.declared.place.Placed.TheVariants.{Made, Inner, Oth
 use Rattle.form_shapes.specs.Places.{misplaced_kind, parameters_in, placed_of, scope_within}
 use Rattle.form_shapes.specs.Scopes.{Scope, deeper, inside, leaf_form, leaf_symbol, target_in}
 use Rattle.form_shapes.specs.Shapes.{shape_of}
+use Rattle.lisp_forms.specs.Parts.{Parts}
 use Rattle.lisp_forms.specs.Rows
 use Rattle.lisp_forms.specs.Trees.{Expansion, Single, in_front, only, leaf, form, nil_form, refused, first, others, second}
 
--- The parts of a list that stand for forms, in each way in which some shape reads them: what a shape does not use does not
--- matter.
-pub record Parts : Type 0 where
-  -- the arguments as forms, by what they are for
-  pub arguments : Roles → Expansion
-  -- the arguments after so many as a body, and all as forms, where these are open
-  pub body : Scope → ℕ → Expansion
-  pub forms : Scope → Expansion
-  -- the forms in the list that is the first argument, where these are open
-  pub within : Scope → Roles → Expansion
-  -- the values of the variables of a `let`, and of a `let*`
-  pub values : Expansion
-  pub values_in_turn : Expansion
-  -- the pairs of a `setq`, the forms of an `or`, the clauses of a `cond`, and those of a `handler-case`
-  pub pairs : Expansion
-  pub ors : Single
-  pub conds : Single
-  pub clauses : Expansion
-
--- what is open in a `with-mutex`
-abbrev pub in_lock : Scope → Scope
-in_lock s = deeper (deeper (deeper s))
-
--- what is open in a `dotimes`: its block, and two hidden variables
-abbrev pub in_dotimes : Scope → Scope
-in_dotimes s = deeper (deeper (inside s (Block 0)))
-
--- what is open where its variable is
-abbrev pub in_turn : Scope → ℕ → Scope
-in_turn s x = opened_by (in_dotimes s) x
-
--- the result of a `dotimes`, where there is one: the third of these
-abbrev pub result_of : Expansion → Option Single
-result_of NoTrees = None
-result_of (Tree kind p under NoTrees) = None
-result_of (Tree kind p under (Tree kind' p' under' NoTrees)) = None
-result_of (Tree kind p under (Tree kind' p' under' (Tree kind'' p'' under'' beside))) =
-    Some (record { kind = kind''; place = p''; under = under'' })
-
--- what stands for a list of this shape at a place, with these variables of a `let`
+-- What stands for a list of this shape at a place, with these variables of a `let`: a line for each shape, which names its row.
 abbrev pub list_form : Scope → ℕ → Shape → List ℕ → Parts → Single
 list_form s p (shape.Wrong number q) xs parts = refused number q
 list_form s p (shape.Leaf kind) xs parts = leaf kind p
-list_form s p (shape.Over kind roles) xs parts = form kind p (parts.arguments roles)
-list_form s p (shape.OverNil kind roles) xs parts = form kind p (joined (parts.arguments roles) (only (nil_form p)))
-list_form s p shape.When xs parts = Rows.when_form p (parts.forms s)
-list_form s p shape.Unless xs parts = Rows.unless_form p (parts.forms s)
+list_form s p (shape.Over kind roles) xs parts = Rows.over_form s p kind roles parts
+list_form s p (shape.OverNil kind roles) xs parts = Rows.over_nil_form s p kind roles parts
+list_form s p shape.When xs parts = Rows.when_form s p parts
+list_form s p shape.Unless xs parts = Rows.unless_form s p parts
 list_form s p shape.Cond xs parts = parts.conds
-list_form s p shape.And xs parts = Rows.and_form p (parts.forms s)
+list_form s p shape.And xs parts = Rows.and_form s p parts
 list_form s p shape.Or xs parts = parts.ors
-list_form s p shape.Prog1 xs parts = Rows.prog1_form s.depth p (first p (parts.forms s)) (parts.body (deeper s) 1)
-list_form s p shape.Setq xs parts = Rows.as_one p parts.pairs
-list_form s p (shape.Change target f) xs parts = Rows.change_form p target f (parts.forms s)
-list_form s p (shape.Fold f) xs parts = Rows.fold_form p f (parts.forms s)
-list_form s p (shape.Twice f) xs parts = Rows.twice_form s.depth p f (first p (parts.forms s))
-list_form s p shape.Let xs parts = Rows.let_form s p xs parts.values (parts.body (opened s xs) 1)
-list_form s p shape.LetStar xs parts = Rows.let_star_form s p xs parts.values_in_turn (parts.body (opened s xs) 1)
-list_form s p (shape.Body kind) xs parts = form kind p (parts.body s 0)
-list_form s p (shape.LocalInterrupts n) xs parts = Rows.local_form n p (parts.body s 0)
-list_form s p shape.Without xs parts = form (k.WithoutInterrupts s.depth) p (parts.body (inside s Region) 0)
-list_form s p (shape.Block b) xs parts = form (k.Block s.depth) p (parts.body (inside s (Block b)) 1)
-list_form s p shape.Catch xs parts = form k.Catch p (in_front (first p (parts.forms s)) (parts.body s 1))
-list_form s p shape.Loop xs parts = Rows.loop_form s.depth p (parts.body (inside s (Block 0)) 0)
-list_form s p (shape.Dotimes x) xs parts =
-    Rows.dotimes_form s p x s.depth (second p (parts.within (inside s (Block 0)) (From 0))) (parts.body (in_turn s x) 1)
-    (result_of (parts.within (in_turn s x) (From 0)))
-list_form s p shape.IgnoreErrors xs parts = Rows.ignore_form p (parts.forms s)
-list_form s p shape.Handler xs parts = form k.HandlerCase p (in_front (first p (parts.forms s)) parts.clauses)
-list_form s p (shape.Deadline seconds replaces) xs parts =
-    form (k.WithDeadline seconds replaces) p (joined (parts.within s (Values 0)) (parts.body s 1))
-list_form s p (shape.Mutex waitp timeout) xs parts =
-    Rows.mutex_form s.depth p waitp timeout (first p (parts.within s (From 0))) (parts.within (in_lock s) (Values 1)) (parts.body (in_lock s) 1)
-list_form s p shape.RecursiveLock xs parts =
-    Rows.lock_form s.depth p (first p (parts.within s (From 0))) (parts.body (in_lock s) 1)
-list_form s p shape.Timeout xs parts =
-    Rows.timeout_form s.depth p (first p (parts.forms (deeper s))) (others (parts.forms (deeper s)))
-list_form s p shape.Terminate xs parts = Rows.terminate_form p (parts.forms s)
+list_form s p shape.Prog1 xs parts = Rows.prog1_form s p parts
+list_form s p shape.Setq xs parts = Rows.setq_form s p parts
+list_form s p (shape.Change target f) xs parts = Rows.change_form s p target f parts
+list_form s p (shape.Fold f) xs parts = Rows.fold_form s p f parts
+list_form s p (shape.Twice f) xs parts = Rows.twice_form s p f parts
+list_form s p shape.Let xs parts = Rows.let_form s p xs parts
+list_form s p shape.LetStar xs parts = Rows.let_star_form s p xs parts
+list_form s p (shape.Body kind) xs parts = Rows.body_form s p kind parts
+list_form s p (shape.LocalInterrupts n) xs parts = Rows.local_interrupts_form s p n parts
+list_form s p shape.Without xs parts = Rows.without_form s p parts
+list_form s p (shape.Block b) xs parts = Rows.block_form s p b parts
+list_form s p shape.Catch xs parts = Rows.catch_form s p parts
+list_form s p shape.Loop xs parts = Rows.loop_form s p parts
+list_form s p (shape.Dotimes x) xs parts = Rows.dotimes_form s p x parts
+list_form s p shape.IgnoreErrors xs parts = Rows.ignore_form s p parts
+list_form s p shape.Handler xs parts = Rows.handler_form s p parts
+list_form s p (shape.Deadline seconds replaces) xs parts = Rows.deadline_form s p seconds replaces parts
+list_form s p (shape.Mutex waitp timeout) xs parts = Rows.mutex_form s p waitp timeout parts
+list_form s p shape.RecursiveLock xs parts = Rows.lock_form s p parts
+list_form s p shape.Timeout xs parts = Rows.timeout_form s p parts
+list_form s p shape.Terminate xs parts = Rows.terminate_form s p parts
 list_form s p (shape.Defun f) xs parts = refused 12 p
 
 -- what the rest of a `let*` is read by, after a variable
@@ -237,15 +193,15 @@ abbrev mutual
   -- the `or` of these at a place
   pub ors_in : Scope → ℕ → Data → Single
   ors_in s p NoData = nil_form p
-  ors_in s p (Atom l q beside) = Rows.or_form (is_none beside) s.depth p (leaf_single s l q) (ors_in (deeper s) p beside)
-  ors_in s p (Listed q under beside) = Rows.or_form (is_none beside) s.depth p (listed s q under) (ors_in (deeper s) p beside)
+  ors_in s p (Atom l q beside) = Rows.or_form s p (is_none beside) (leaf_single s l q) (λ inner. ors_in inner p beside)
+  ors_in s p (Listed q under beside) = Rows.or_form s p (is_none beside) (listed s q under) (λ inner. ors_in inner p beside)
 
   -- the `cond` of these clauses at a place
   pub conds_in : Scope → ℕ → Data → Single
   conds_in s p NoData = nil_form p
   conds_in s p (Atom l q beside) = conds_in s p beside
   conds_in s p (Listed q under beside) =
-      Rows.clause_of_cond s.depth p (forms_in s under) (conds_in s p beside) (conds_in (deeper s) p beside)
+      Rows.clause_of_cond s p (forms_in s under) (λ inner. conds_in inner p beside)
 
   -- the clauses of a `handler-case` at a place, after its form
   pub clauses_behind : Scope → ℕ → Data → Expansion

@@ -1,4 +1,6 @@
 pub mod Trees
+pub mod Blocks
+pub mod Parts
 pub mod Rows
 pub mod Expansion
 pub mod Program

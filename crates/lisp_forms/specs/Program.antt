@@ -26,7 +26,8 @@ use Rattle.form_shapes.specs.Scopes.{Scope, as_variable, first_symbol, has, insi
 use Rattle.form_shapes.specs.Shapes.{shape_of}
 use Rattle.lisp_forms.specs.declared.expander.Refusal.{Refusal}
 use Rattle.lisp_forms.specs.Expansion.{function_body_in, leaf_single, list_form, parts_in}
-use Rattle.lisp_forms.specs.Rows.{defun_form, is_function}
+use Rattle.lisp_forms.specs.Blocks.{is_function}
+use Rattle.lisp_forms.specs.Rows.{defun_form}
 use Rattle.lisp_forms.specs.Trees.{Expansion, Single, in_front, refused}
 
 -- what stands at the front of a list, whatever the program defines

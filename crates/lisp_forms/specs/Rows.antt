@@ -1,5 +1,6 @@
--- What stands for each form: the right sides of the table of forms, from the forms that stand for its parts.
-use Rattle.std.specs.Prelude.{ℕ, ℤ, ◌-◌, suc, pos, List, [], ◌∷◌, Bool, true, false, ◌||◌, ◌==◌, Option, Some, None, if◌then◌else◌, nat_lt, length}
+-- The table of forms: for each form that is written, what stands for it. A row is given what the form is read by, its place, and
+-- its parts. `g` is the number of the next hidden variable; what is read inside it is read by a deeper scope.
+use Rattle.std.specs.Prelude.{ℕ, ℤ, suc, pos, List, [], ◌∷◌, Bool, true, false, Option, Some, None, if◌then◌else◌, length}
 use Rattle.lisp_base.specs.Forest.{NoTrees, Tree, joined}
 use Rattle.lisp_base.specs.declared.condition.Class.{Class}
 use Rattle.lisp_base.specs.declared.condition.Class.TheVariants.{Error, Timeout}
@@ -10,12 +11,16 @@ use Rattle.lisp_program.specs.declared.form.CoreKind.TheVariants as k
 use Rattle.lisp_program.specs.declared.function.Primitive.{Primitive}
 use Rattle.lisp_program.specs.declared.function.Primitive.TheVariants as f
 use Rattle.lisp_program.specs.declared.function.Service.TheVariants as service
-use Rattle.form_shapes.specs.declared.expanded.Expanded.{Expanded}
-use Rattle.form_shapes.specs.declared.expanded.Expanded.TheVariants.{Form, Lambda, Defun, Refused, RefusedFunction}
+use Rattle.form_shapes.specs.declared.expanded.Expanded.TheVariants.{Lambda, Defun, Refused}
+use Rattle.form_shapes.specs.declared.keywords.Roles.{Roles}
+use Rattle.form_shapes.specs.declared.keywords.Roles.TheVariants.{From, Values}
+use Rattle.form_shapes.specs.declared.levels.Level.TheVariants.{Block, Region}
 use Rattle.form_shapes.specs.declared.scope.Target.{Target}
-use Rattle.form_shapes.specs.Bindings.{opened_by}
-use Rattle.form_shapes.specs.Scopes.{Scope, constant, has, set_kind}
-use Rattle.lisp_forms.specs.Trees.{Expansion, Single, in_front, only, both, three, leaf, form, nil_form, progn_form, first, others}
+use Rattle.form_shapes.specs.Bindings.{opened, opened_by}
+use Rattle.form_shapes.specs.Scopes.{Scope, constant, deeper, has, inside, set_kind}
+use Rattle.lisp_forms.specs.Blocks.{blocked}
+use Rattle.lisp_forms.specs.Parts.{Parts}
+use Rattle.lisp_forms.specs.Trees.{Expansion, Single, in_front, only, both, three, leaf, form, nil_form, progn_form, first, others, second}
 
 -- a variable with this number
 abbrev pub local : ℕ → ℕ → Single
@@ -29,13 +34,15 @@ true_form p = form (k.Constant (ASymbol 1)) p NoTrees
 abbrev pub number_form : ℤ → ℕ → Single
 number_form z p = leaf (constant (AnInt z)) p
 
--- `if`
+-- `(if test chosen other)`
 abbrev pub if_form : ℕ → (test chosen other : Single) → Single
 if_form p test chosen other = form k.If p (three test chosen other)
 
--- a hidden variable with this number, bound to a value in a body
+-- `(let ((x value)) body)` of a hidden variable with this number
 abbrev pub hidden_let : ℕ → ℕ → (value : Single) → (body : Expansion) → Single
 hidden_let x p value body = form k.Let p (both value (form (k.BindLocal x 0) p body))
+
+-- `let` and `let*`
 
 -- the kind of a form that binds a variable to the value with so many others before it, where so many are open
 abbrev pub bind_kind : Scope → (depth x above : ℕ) → CoreKind
@@ -52,9 +59,13 @@ binds s p [] body = body
 binds s p (x ∷ xs) body = only (bind_form s p s.depth x (length xs) (binds (opened_by s x) p xs body))
 
 -- a `let` of these variables; without variables it is its body
-abbrev pub let_form : Scope → ℕ → List ℕ → (values body : Expansion) → Single
-let_form s p [] values body = progn_form p body
-let_form s p (x ∷ xs) values body = form k.Let p (joined values (binds s p (x ∷ xs) body))
+abbrev pub let_of : Scope → ℕ → List ℕ → (values body : Expansion) → Single
+let_of s p [] values body = progn_form p body
+let_of s p (x ∷ xs) values body = form k.Let p (joined values (binds s p (x ∷ xs) body))
+
+-- `(let ((x a) (y b)) body)`: the values, and then one binding in another
+abbrev pub let_form : Scope → ℕ → List ℕ → Parts → Single
+let_form s p xs parts = let_of s p xs parts.values (parts.body (opened s xs) 1)
 
 -- a `let` of the first variable with a `let` of the others in it, and so on
 abbrev pub nested : Scope → ℕ → List ℕ → (values body : Expansion) → Expansion
@@ -62,65 +73,86 @@ nested s p [] values body = body
 nested s p (x ∷ xs) values body =
     only (form k.Let p (both (first p values) (bind_form s p s.depth x 0 (nested (opened_by s x) p xs (others values) body))))
 
--- `let*`; without variables it is its body
-abbrev pub let_star_form : Scope → ℕ → List ℕ → (values body : Expansion) → Single
-let_star_form s p [] values body = progn_form p body
-let_star_form s p (x ∷ xs) values body = first p (nested s p (x ∷ xs) values body)
+-- a `let*` of these variables; without variables it is its body
+abbrev pub let_star_of : Scope → ℕ → List ℕ → (values body : Expansion) → Single
+let_star_of s p [] values body = progn_form p body
+let_star_of s p (x ∷ xs) values body = first p (nested s p (x ∷ xs) values body)
 
--- `when`
-abbrev pub when_form : ℕ → Expansion → Single
-when_form p fs = if_form p (first p fs) (progn_form p (others fs)) (nil_form p)
+-- `(let* ((x a) (y b)) body)` is `(let ((x a)) (let ((y b)) body))`
+abbrev pub let_star_form : Scope → ℕ → List ℕ → Parts → Single
+let_star_form s p xs parts = let_star_of s p xs parts.values_in_turn (parts.body (opened s xs) 1)
 
--- `unless`
-abbrev pub unless_form : ℕ → Expansion → Single
-unless_form p fs = if_form p (first p fs) (nil_form p) (progn_form p (others fs))
+-- Conditions
 
--- `(or a rest)`, or a clause `(a)` of `cond`: the first value where it is not NIL, which a hidden variable holds, else the rest
+-- `(when a b)` is `(if a (progn b) nil)`
+abbrev pub when_form : Scope → ℕ → Parts → Single
+when_form s p parts = if_form p (first p (parts.forms s)) (progn_form p (others (parts.forms s))) (nil_form p)
+
+-- `(unless a b)` is `(if a nil (progn b))`
+abbrev pub unless_form : Scope → ℕ → Parts → Single
+unless_form s p parts = if_form p (first p (parts.forms s)) (nil_form p) (progn_form p (others (parts.forms s)))
+
+-- `(let ((g a)) (if g g rest))`, with this number for g
 abbrev pub either : ℕ → ℕ → (a rest : Single) → Single
-either x p a rest = hidden_let x p a (only (if_form p (local x p) (local x p) rest))
+either g p a rest = hidden_let g p a (only (if_form p (local g p) (local g p) rest))
 
--- `or` of a form and the rest of the forms, which may be none
-abbrev pub or_form : (is_last : Bool) → ℕ → ℕ → (a rest : Single) → Single
-or_form true x p a rest = a
-or_form false x p a rest = either x p a rest
+-- `(or a)` is a, and `(or a rest)` is `(let ((g a)) (if g g (or rest)))`, with the rest as it is read inside g
+abbrev pub or_form : Scope → ℕ → (is_last : Bool) → (a : Single) → (rest : Scope → Single) → Single
+or_form s p true a rest = a
+or_form s p false a rest = let g : ℕ = s.depth in either g p a (rest (deeper s))
 
--- `and` of these: the last, where none before it is NIL
-abbrev pub and_form : ℕ → Expansion → Single
-and_form p NoTrees = true_form p
-and_form p (Tree kind q under NoTrees) = record { kind = kind; place = q; under = under }
-and_form p (Tree kind q under (Tree kind' q' under' beside)) =
-    if_form p (record { kind = kind; place = q; under = under }) (and_form p (Tree kind' q' under' beside)) (nil_form p)
+-- `(and)` is T, `(and a)` is a, and `(and a b)` is `(if a (and b) nil)`
+abbrev pub and_of : ℕ → Expansion → Single
+and_of p NoTrees = true_form p
+and_of p (Tree kind q under NoTrees) = record { kind = kind; place = q; under = under }
+and_of p (Tree kind q under (Tree kind' q' under' beside)) =
+    if_form p (record { kind = kind; place = q; under = under }) (and_of p (Tree kind' q' under' beside)) (nil_form p)
 
--- a clause of `cond` of these forms, and the other clauses; these are other forms where the clause holds a variable
-abbrev pub clause_of_cond : ℕ → ℕ → (clause : Expansion) → (rest rest_inside : Single) → Single
-clause_of_cond x p NoTrees rest rest_inside = rest
-clause_of_cond x p (Tree kind q under NoTrees) rest rest_inside = either x p (record { kind = kind; place = q; under = under }) rest_inside
-clause_of_cond x p (Tree kind q under (Tree kind' q' under' beside)) rest rest_inside =
-    if_form p (record { kind = kind; place = q; under = under }) (progn_form p (Tree kind' q' under' beside)) rest
+-- `and`
+abbrev pub and_form : Scope → ℕ → Parts → Single
+and_form s p parts = and_of p (parts.forms s)
 
--- `prog1`: a hidden variable holds the value of the first while the others are done
-abbrev pub prog1_form : ℕ → ℕ → (a : Single) → (body : Expansion) → Single
-prog1_form x p a body = hidden_let x p a (joined body (only (local x p)))
+-- A clause of `cond` with these forms, and the other clauses, by what they are read by: `(a b)` is `(if a (progn b) rest)`, and `(a)`
+-- is `(let ((g a)) (if g g rest))`, with the rest as it is read inside g.
+abbrev pub clause_of_cond : Scope → ℕ → (clause : Expansion) → (rest : Scope → Single) → Single
+clause_of_cond s p NoTrees rest = rest s
+clause_of_cond s p (Tree kind q under NoTrees) rest =
+    let g : ℕ = s.depth in either g p (record { kind = kind; place = q; under = under }) (rest (deeper s))
+clause_of_cond s p (Tree kind q under (Tree kind' q' under' beside)) rest =
+    if_form p (record { kind = kind; place = q; under = under }) (progn_form p (Tree kind' q' under' beside)) (rest s)
 
--- `setq` of one variable; of no other symbol there is a form
+-- `(prog1 a b)` is `(let ((g a)) b g)`
+abbrev pub prog1_form : Scope → ℕ → Parts → Single
+prog1_form s p parts =
+    let g : ℕ = s.depth in
+    hidden_let g p (first p (parts.forms s)) (joined (parts.body (deeper s) 1) (only (local g p)))
+
+-- Variables and functions
+
+-- `(setq v x)`, whose variable stands at q; where there is none it is refused there
 abbrev pub set_form : ℕ → Option Target → (q : ℕ) → (value : Single) → Single
 set_form p None q value = leaf (Refused 13) q
 set_form p (Some target) q value = form (set_kind target) p (only value)
 
--- one of several is that one, and more are as one
+-- one of several is that one, and more are a `progn`
 abbrev pub as_one : ℕ → Expansion → Single
 as_one p NoTrees = nil_form p
 as_one p (Tree kind q under NoTrees) = record { kind = kind; place = q; under = under }
 as_one p (Tree kind q under (Tree kind' q' under' beside)) = progn_form p (Tree kind q under (Tree kind' q' under' beside))
+
+-- `(setq a x b y)` is `(progn (setq a x) (setq b y))`
+abbrev pub setq_form : Scope → ℕ → Parts → Single
+setq_form s p parts = as_one p parts.pairs
 
 -- how much `incf` and `decf` change their variable: by 1, where it is not written
 abbrev pub amount : ℕ → Expansion → Single
 amount p NoTrees = number_form (pos 1) p
 amount p (Tree kind q under beside) = record { kind = kind; place = q; under = under }
 
--- `incf` and `decf`: the first of these reads the variable
-abbrev pub change_form : ℕ → Target → Primitive → Expansion → Single
-change_form p target g fs = form (set_kind target) p (only (form (k.Apply g) p (both (first p fs) (amount p (others fs)))))
+-- `(incf v d)` is `(setq v (+ v d))`, and `(decf v d)` is `(setq v (- v d))`; the first argument reads the variable
+abbrev pub change_form : Scope → ℕ → Target → Primitive → Parts → Single
+change_form s p target g parts =
+    form (set_kind target) p (only (form (k.Apply g) p (both (first p (parts.forms s)) (amount p (others (parts.forms s))))))
 
 -- a function of this and each of those, from the left
 abbrev pub folded : ℕ → Primitive → (sum : Single) → Expansion → Single
@@ -133,77 +165,36 @@ unit_of f.Multiply = pos 1
 unit_of _ = pos 0
 
 -- a function that is folded over these; one alone is folded with the number that changes nothing
-abbrev pub fold_form : ℕ → Primitive → Expansion → Single
-fold_form p g NoTrees = nil_form p
-fold_form p g (Tree kind q under NoTrees) =
+abbrev pub fold_of : ℕ → Primitive → Expansion → Single
+fold_of p g NoTrees = nil_form p
+fold_of p g (Tree kind q under NoTrees) =
     form (k.Apply g) p (both (number_form (unit_of g) p) (record { kind = kind; place = q; under = under }))
-fold_form p g (Tree kind q under (Tree kind' q' under' beside)) =
+fold_of p g (Tree kind q under (Tree kind' q' under' beside)) =
     folded p g (record { kind = kind; place = q; under = under }) (Tree kind' q' under' beside)
 
--- a function of one value twice
-abbrev pub twice_form : ℕ → ℕ → Primitive → Single → Single
-twice_form x p g a = hidden_let x p a (only (form (k.Apply g) p (both (local x p) (local x p))))
+-- `(+ a b c)` is `(+ (+ a b) c)`, and `(+ a)` is `(+ 0 a)`; so are `*`, `-`, `max` and `min`
+abbrev pub fold_form : Scope → ℕ → Primitive → Parts → Single
+fold_form s p g parts = fold_of p g (parts.forms s)
 
--- a form of this kind leaves to the block with this number
-abbrev pub is_exit : ℕ → CoreKind → Bool
-is_exit n (k.ReturnFrom b) = b == n
-is_exit n _ = false
+-- `(max a)` is `(let ((g a)) (max g g))`, and so is `min`
+abbrev pub twice_form : Scope → ℕ → Primitive → Parts → Single
+twice_form s p function parts =
+    let g : ℕ = s.depth in
+    hidden_let g p (first p (parts.forms s)) (only (form (k.Apply function) p (both (local g p) (local g p))))
 
--- a number without the level with that number
-abbrev pub less : ℕ → ℕ → ℕ
-less n x = if nat_lt n x then x - 1 else x
+-- Loops
 
--- a kind of form without the level with this number
-abbrev pub lowered_core : ℕ → CoreKind → CoreKind
-lowered_core n (k.Local x) = k.Local (less n x)
-lowered_core n (k.SetLocal x) = k.SetLocal (less n x)
-lowered_core n (k.BindLocal x above) = k.BindLocal (less n x) above
-lowered_core n (k.Block x) = k.Block (less n x)
-lowered_core n (k.ReturnFrom x) = k.ReturnFrom (less n x)
-lowered_core n (k.WithoutInterrupts x) = k.WithoutInterrupts (less n x)
-lowered_core n (k.AllowWithInterrupts x) = k.AllowWithInterrupts (less n x)
-lowered_core n (k.ClauseWith class x) = k.ClauseWith class (less n x)
-lowered_core n kind = kind
+-- `(loop b)` is `(while t b)` in an implicit block NIL
+abbrev pub loop_form : Scope → ℕ → Parts → Single
+loop_form s p parts = first p (blocked s.depth p (only (form k.While p (in_front (true_form p) (parts.body (inside s (Block 0)) 0)))))
 
--- what stands for a form, without the level with this number
-abbrev pub lowered_kind : ℕ → Expanded → Expanded
-lowered_kind n (Form kind) = Form (lowered_core n kind)
-lowered_kind n (Lambda parameters) = Lambda parameters
-lowered_kind n (Defun f parameters) = Defun f parameters
-lowered_kind n (Refused number) = Refused number
-lowered_kind n (RefusedFunction number) = RefusedFunction number
+-- what is open in a `dotimes`: its block, a hidden variable for the number of turns, and one for how many are done
+abbrev pub in_dotimes : Scope → Scope
+in_dotimes s = deeper (deeper (inside s (Block 0)))
 
--- what stands for a form leaves to the block with this number
-abbrev pub is_return_to : ℕ → Expanded → Bool
-is_return_to n (Form kind) = is_exit n kind
-is_return_to n _ = false
-
--- a function: what is in it is another call
-abbrev pub is_function : Expanded → Bool
-is_function (Form kind) = false
-is_function (Lambda parameters) = true
-is_function (Defun f parameters) = true
-is_function (Refused number) = false
-is_function (RefusedFunction number) = true
-
--- some form of these leaves to the block with this number
-abbrev pub returns_to : ℕ → Expansion → Bool
-returns_to n NoTrees = false
-returns_to n (Tree kind p under beside) = is_return_to n kind || (if is_function kind then false else returns_to n under) || returns_to n beside
-
--- these without the level with this number: each that was open in it has a number less
-abbrev pub lowered : ℕ → Expansion → Expansion
-lowered n NoTrees = NoTrees
-lowered n (Tree kind p under beside) =
-    Tree (lowered_kind n kind) p (if is_function kind then under else lowered n under) (lowered n beside)
-
--- A body in an implicit block, which is only made where some form in it leaves to it.
-abbrev pub blocked : ℕ → ℕ → Expansion → Expansion
-blocked n p body = if returns_to n body then only (form (k.Block n) p body) else lowered n body
-
--- `loop`, in its block with this number
-abbrev pub loop_form : ℕ → ℕ → (body : Expansion) → Single
-loop_form n p body = first p (blocked n p (only (form k.While p (in_front (true_form p) body))))
+-- what is open where its variable is
+abbrev pub in_turn : Scope → ℕ → Scope
+in_turn s x = opened_by (in_dotimes s) x
 
 -- there are more turns than are done
 abbrev pub more_form : ℕ → (limit done : ℕ) → Single
@@ -222,85 +213,149 @@ abbrev pub result_form : ℕ → (done : ℕ) → CoreKind → Option Single →
 result_form p done kind None = nil_form p
 result_form p done kind (Some result) = turn_form p done kind (only result)
 
--- a `dotimes` after its number of turns, in its block with this number: hidden variables hold that and how many are done
-abbrev pub turns_form : Scope → ℕ → (x n : ℕ) → (body : Expansion) → (result : Option Single) → Single
-turns_form s p x n body result =
-    let limit : ℕ = suc n in
-    let done : ℕ = suc (suc n) in
-    let kind : CoreKind = bind_kind s (suc (suc (suc n))) x 0 in
-    let turn : Single = form k.While p (three (more_form p limit done) (turn_form p done kind body) (step_form p done)) in
-    form (k.BindLocal limit 1) p (only (form (k.BindLocal done 0) p (both turn (result_form p done kind result))))
+-- A `dotimes` after its number of turns, g:
+-- `(let ((g n) (h 0)) (while (< h g) (let ((i h)) b) (setq h (+ h 1))) (let ((i h)) r))`
+abbrev pub turns_form : Scope → ℕ → (x : ℕ) → (body : Expansion) → (result : Option Single) → Single
+turns_form s p x body result =
+    let g : ℕ = (inside s (Block 0)).depth in
+    let h : ℕ = (deeper (inside s (Block 0))).depth in
+    let kind : CoreKind = bind_kind s (in_dotimes s).depth x 0 in
+    let turn : Single = form k.While p (three (more_form p g h) (turn_form p h kind body) (step_form p h)) in
+    form (k.BindLocal g 1) p (only (form (k.BindLocal h 0) p (both turn (result_form p h kind result))))
 
--- `dotimes`, in its block with this number
-abbrev pub dotimes_form : Scope → ℕ → (x n : ℕ) → (turns : Single) → (body : Expansion) → (result : Option Single) → Single
-dotimes_form s p x n turns body result =
-    first p (blocked n p (only (form k.Let p (three turns (number_form (pos 0) p) (turns_form s p x n body result)))))
+-- the result of a `dotimes`, where there is one: the third of these
+abbrev pub result_of : Expansion → Option Single
+result_of NoTrees = None
+result_of (Tree kind p under NoTrees) = None
+result_of (Tree kind p under (Tree kind' p' under' NoTrees)) = None
+result_of (Tree kind p under (Tree kind' p' under' (Tree kind'' p'' under'' beside))) =
+    Some (record { kind = kind''; place = p''; under = under'' })
 
--- `ignore-errors`
-abbrev pub ignore_form : ℕ → Expansion → Single
-ignore_form p fs = form k.HandlerCase p (both (progn_form p fs) (form (k.Clause Error) p (only (nil_form p))))
+-- `(dotimes (i n r) b)`, in an implicit block NIL; without r its last form is NIL
+abbrev pub dotimes_form : Scope → ℕ → (x : ℕ) → Parts → Single
+dotimes_form s p x parts =
+    let turns : Single = second p (parts.within (inside s (Block 0)) (From 0)) in
+    let result : Option Single = result_of (parts.within (in_turn s x) (From 0)) in
+    first p (blocked s.depth p (only (form k.Let p (three turns (number_form (pos 0) p) (turns_form s p x (parts.body (in_turn s x) 1) result)))))
 
--- a clause of `handler-case`, with its variable, which has this number; a special one is bound to a hidden one
-abbrev pub clause_form : Scope → ℕ → ℕ → Class → Option ℕ → Expansion → Single
-clause_form s n p class None body = form (k.Clause class) p body
-clause_form s n p class (Some x) body =
-    form (k.ClauseWith class n) p (if has s.specials x then only (form k.Let p (both (local n p) (form (k.BindSpecial x 0) p body))) else body)
+-- Frames
+
+-- a form of this kind round its body
+abbrev pub body_form : Scope → ℕ → CoreKind → Parts → Single
+body_form s p kind parts = form kind p (parts.body s 0)
+
+-- `without-interrupts`, which remembers whether interruptions are allowed
+abbrev pub without_form : Scope → ℕ → Parts → Single
+without_form s p parts = form (k.WithoutInterrupts s.depth) p (parts.body (inside s Region) 0)
 
 -- `with-local-interrupts` inside the `without-interrupts` with this number
 abbrev pub local_form : ℕ → ℕ → (body : Expansion) → Single
 local_form n p body = form (k.AllowWithInterrupts n) p (only (form k.WithInterrupts p body))
 
--- the cleanup of a lock: its mutex is released where it was grabbed
+-- `(with-local-interrupts b)` is `(allow-with-interrupts (with-interrupts b))`, by the `without-interrupts` with this number
+abbrev pub local_interrupts_form : Scope → ℕ → (n : ℕ) → Parts → Single
+local_interrupts_form s p n parts = local_form n p (parts.body s 0)
+
+-- `(block b body)`
+abbrev pub block_form : Scope → ℕ → (b : ℕ) → Parts → Single
+block_form s p b parts = form (k.Block s.depth) p (parts.body (inside s (Block b)) 1)
+
+-- `(catch tag body)`
+abbrev pub catch_form : Scope → ℕ → Parts → Single
+catch_form s p parts = form k.Catch p (in_front (first p (parts.forms s)) (parts.body s 1))
+
+-- `(with-deadline (:seconds a :override b) body)`
+abbrev pub deadline_form : Scope → ℕ → (seconds replaces : Bool) → Parts → Single
+deadline_form s p seconds replaces parts = form (k.WithDeadline seconds replaces) p (joined (parts.within s (Values 0)) (parts.body s 1))
+
+-- `(handler-case a clauses)`
+abbrev pub handler_form : Scope → ℕ → Parts → Single
+handler_form s p parts = form k.HandlerCase p (in_front (first p (parts.forms s)) parts.clauses)
+
+-- A clause of `handler-case` with its variable, if it has one, which has this number. A special variable is bound to a hidden one:
+-- `(class (g) (let ((v g)) body))`.
+abbrev pub clause_form : Scope → (g p : ℕ) → Class → Option ℕ → Expansion → Single
+clause_form s g p class None body = form (k.Clause class) p body
+clause_form s g p class (Some x) body =
+    form (k.ClauseWith class g) p (if has s.specials x then only (form k.Let p (both (local g p) (form (k.BindSpecial x 0) p body))) else body)
+
+-- `(ignore-errors b)` is `(handler-case (progn b) (error () nil))`
+abbrev pub ignore_form : Scope → ℕ → Parts → Single
+ignore_form s p parts = form k.HandlerCase p (both (progn_form p (parts.forms s)) (form (k.Clause Error) p (only (nil_form p))))
+
+-- Locks
+
+-- what is open in the body of a lock: a hidden variable for the mutex, one for whether it was grabbed, and a region
+abbrev pub in_lock : Scope → Scope
+in_lock s = deeper (deeper (deeper s))
+
+-- the cleanup of a lock: `(when h (release-mutex g :if-not-owner :punt))`
 abbrev pub release_form : (g h : ℕ) → ℕ → Single
 release_form g h p =
     let release : Single = form (k.Serve (service.ReleaseMutex true)) p (both (local g p) (form (k.Constant (ASymbol 3)) p NoTrees)) in
     if_form p (local h p) (progn_form p (only release)) (nil_form p)
 
--- What `with-mutex` and `with-recursive-lock` have in common: hidden variables for the mutex and for whether it was grabbed, with
--- these numbers, and a region. The body is done where the test gives the mutex, and the mutex is released where it was grabbed.
-abbrev pub locked : ℕ → ℕ → (mutex test : Single) → (body : Expansion) → Single
-locked g p mutex test body =
-    let h : ℕ = suc g in
-    let r : ℕ = suc (suc g) in
-    let protected : Single = if_form p test (progn_form p (only (local_form r p body))) (nil_form p) in
-    let region : Single = form (k.WithoutInterrupts r) p (only (form k.UnwindProtect p (both protected (release_form g h p)))) in
-    form k.Let p (three mutex (nil_form p) (form (k.BindLocal g 1) p (only (form (k.BindLocal h 0) p (only region)))))
+-- What `with-mutex` and `with-recursive-lock` have in common, by the numbers of the hidden variables and of the region:
+-- `(let ((g m) (h nil)) (without-interrupts (unwind-protect (when test (with-local-interrupts b)) cleanup)))`
+abbrev pub locked : (g h region : ℕ) → ℕ → (mutex test : Single) → (body : Expansion) → Single
+locked g h region p mutex test body =
+    let protected : Single = if_form p test (progn_form p (only (local_form region p body))) (nil_form p) in
+    let guarded : Single = form (k.WithoutInterrupts region) p (only (form k.UnwindProtect p (both protected (release_form g h p)))) in
+    form k.Let p (three mutex (nil_form p) (form (k.BindLocal g 1) p (only (form (k.BindLocal h 0) p (only guarded)))))
 
--- grabs the mutex with this number, with interruptions as they were outside the region, and keeps whether it was grabbed
-abbrev pub grabbing : ℕ → ℕ → (waitp timeout : Bool) → (operands : Expansion) → Single
-grabbing g p waitp timeout operands =
+-- `(setq h (allow-with-interrupts (grab-mutex g ..)))`, with these operands behind the mutex
+abbrev pub grabbing : (g h region : ℕ) → ℕ → (waitp timeout : Bool) → (operands : Expansion) → Single
+grabbing g h region p waitp timeout operands =
     let grab : Single = form (k.Serve (service.GrabMutex waitp timeout)) p (in_front (local g p) operands) in
-    form (k.SetLocal (suc g)) p (only (form (k.AllowWithInterrupts (suc (suc g))) p (only grab)))
+    form (k.SetLocal h) p (only (form (k.AllowWithInterrupts region) p (only grab)))
 
--- `with-mutex`
-abbrev pub mutex_form : ℕ → ℕ → (waitp timeout : Bool) → (mutex : Single) → (operands body : Expansion) → Single
-mutex_form g p waitp timeout mutex operands body = locked g p mutex (grabbing g p waitp timeout operands) body
+-- `(with-mutex (m :wait-p w :timeout s) b)`
+abbrev pub mutex_form : Scope → ℕ → (waitp timeout : Bool) → Parts → Single
+mutex_form s p waitp timeout parts =
+    let g : ℕ = s.depth in
+    let h : ℕ = (deeper s).depth in
+    let region : ℕ = (deeper (deeper s)).depth in
+    let grab : Single = grabbing g h region p waitp timeout (parts.within (in_lock s) (Values 1)) in
+    locked g h region p (first p (parts.within s (From 0))) grab (parts.body (in_lock s) 1)
 
--- whether the thread has the mutex
+-- `(holding-mutex-p g)`
 abbrev pub held_form : ℕ → ℕ → Single
 held_form g p = form (k.Serve service.HoldingMutex) p (only (local g p))
 
--- `with-recursive-lock`: it is not grabbed where the thread has it
-abbrev pub lock_form : ℕ → ℕ → (mutex : Single) → (body : Expansion) → Single
-lock_form g p mutex body =
-    locked g p mutex (either (suc (suc (suc g))) p (held_form g p) (grabbing g p false false NoTrees)) body
+-- `(with-recursive-lock (m) b)`: the test is `(or (holding-mutex-p g) (setq h (allow-with-interrupts (grab-mutex g))))`
+abbrev pub lock_form : Scope → ℕ → Parts → Single
+lock_form s p parts =
+    let g : ℕ = s.depth in
+    let h : ℕ = (deeper s).depth in
+    let region : ℕ = (deeper (deeper s)).depth in
+    let test : Single = either (in_lock s).depth p (held_form g p) (grabbing g h region p false false NoTrees) in
+    locked g h region p (first p (parts.within s (From 0))) test (parts.body (in_lock s) 1)
 
--- a timer whose function signals `timeout`
+-- Timers and threads
+
+-- `(make-timer (lambda () (signal-timeout)))`
 abbrev pub timer_form : ℕ → Single
 timer_form p =
     let signals : Single = form (k.Signal (record { class = Timeout; text = None })) p NoTrees in
     form (k.Serve (service.MakeTimer false false)) p (only (record { kind = Lambda 0; place = p; under = only signals }))
 
--- `with-timeout`
-abbrev pub timeout_form : ℕ → ℕ → (seconds : Single) → (body : Expansion) → Single
-timeout_form g p seconds body =
+-- `(let ((g timer)) (schedule-timer g seconds) (unwind-protect (progn b) (unschedule-timer g)))`
+abbrev pub timeout_of : ℕ → ℕ → (seconds : Single) → (body : Expansion) → Single
+timeout_of g p seconds body =
     let schedule : Single = form (k.Serve (service.ScheduleTimer false false)) p (both (local g p) seconds) in
     let unschedule : Single = form (k.Serve service.UnscheduleTimer) p (only (local g p)) in
     hidden_let g p (timer_form p) (both schedule (form k.UnwindProtect p (both (progn_form p body) unschedule)))
 
--- `terminate-thread`
-abbrev pub terminate_form : ℕ → Expansion → Single
-terminate_form p fs = form (k.Serve service.InterruptThread) p (both (first p fs) (form (k.Function AbortThread) p NoTrees))
+-- `(with-timeout s b)`: seconds and body are read inside the hidden variable
+abbrev pub timeout_form : Scope → ℕ → Parts → Single
+timeout_form s p parts = let g : ℕ = s.depth in timeout_of g p (first p (parts.forms (deeper s))) (others (parts.forms (deeper s)))
+
+-- `(terminate-thread x)` is `(interrupt-thread x f)`, where f calls `abort-thread`
+abbrev pub terminate_form : Scope → ℕ → Parts → Single
+terminate_form s p parts =
+    form (k.Serve service.InterruptThread) p (both (first p (parts.forms s)) (form (k.Function AbortThread) p NoTrees))
+
+-- Functions
 
 -- a body round which each special parameter is bound to the hidden one that has its number, the first outermost
 abbrev pub specials_bound : Scope → ℕ → (number : ℕ) → List ℕ → Expansion → Expansion
@@ -313,7 +368,7 @@ specials_bound s p i (x ∷ xs) body =
 abbrev pub lambda_form : Scope → ℕ → List ℕ → (body : Expansion) → Single
 lambda_form s p parameters body = record { kind = Lambda (length parameters); place = p; under = specials_bound s p 0 parameters body }
 
--- a `defun` with these parameters, and a block of its name
+-- a `defun` with these parameters, and an implicit block of its name
 abbrev pub defun_form : Scope → ℕ → (name : ℕ) → List ℕ → (body : Expansion) → Single
 defun_form s p name parameters body =
     record {
@@ -321,3 +376,13 @@ defun_form s p name parameters body =
       place = p;
       under = specials_bound s p 0 parameters (blocked (length parameters) p body);
     }
+
+-- The other forms are of one kind with their arguments under it, by what they are for.
+
+-- a form of one kind over its arguments
+abbrev pub over_form : Scope → ℕ → CoreKind → Roles → Parts → Single
+over_form s p kind roles parts = form kind p (parts.arguments roles)
+
+-- and one that has NIL after them, where it is not written: `(if a b)` and `(return-from b)`
+abbrev pub over_nil_form : Scope → ℕ → CoreKind → Roles → Parts → Single
+over_nil_form s p kind roles parts = form kind p (joined (parts.arguments roles) (only (nil_form p)))

@@ -20,7 +20,8 @@ use Rattle.lisp_forms.specs.declared.locks.Lock.{Lock}
 use Rattle.lisp_forms.specs.Expansion.{behind_variable, by_roles, is_none}
 use Rattle.lisp_forms.specs.Flat.{flat, flat_one, node}
 use Rattle.lisp_forms.specs.Program.{core_kind, with_function}
-use Rattle.lisp_forms.specs.Rows.{bind_kind, is_function, is_return_to, lowered_kind, release_form}
+use Rattle.lisp_forms.specs.Blocks.{is_function, is_return_to, lowered_kind}
+use Rattle.lisp_forms.specs.Rows.{bind_kind, release_form}
 use Rattle.lisp_forms.specs.Trees.{Expansion, Single, first, nil_form, progn_form}
 
 -- what `or` and `cond` write for a form before what is done where its value is NIL

@@ -2,7 +2,7 @@ ghost use Rattle.std.specs.Prelude.{◌≡◌, ◌∷◌, [], ◌+◌, ◌^◌, 
 ghost use Rattle.lisp_base.specs.Forest.{count_of};
 ghost use Rattle.lisp_base.specs.Writing.{Wrote};
 ghost use Rattle.lisp_forms.specs.Flat.{flat};
-ghost use Rattle.lisp_forms.specs.Rows;
+ghost use Rattle.lisp_forms.specs.Blocks;
 ghost use Rattle.lisp_forms.specs.Trees.{Expansion};
 ghost use Rattle.lisp_forms.specs.Written.{leaves_here, lowered_node, skipped_behind as behind_node};
 
@@ -14,7 +14,7 @@ use lisp_program::form::CoreKind;
 
 /// Whether what stands for a form is a function: what is in it is another call.
 pub fn is_function(kind: &Expanded) -> bool
-    ensures { result ≡ Rows.is_function kind.now }
+    ensures { result ≡ Blocks.is_function kind.now }
 {
     match kind {
         Expanded::Form(_) | Expanded::Refused(_) => false,
@@ -24,7 +24,7 @@ pub fn is_function(kind: &Expanded) -> bool
 
 /// Whether what stands for a form leaves to the block with this number.
 fn is_return_to(number: u32, kind: &Expanded) -> bool
-    ensures { result ≡ Rows.is_return_to number kind.now }
+    ensures { result ≡ Blocks.is_return_to number kind.now }
 {
     match kind {
         Expanded::Form(CoreKind::ReturnFrom(block)) => *block == number,
@@ -34,7 +34,7 @@ fn is_return_to(number: u32, kind: &Expanded) -> bool
 
 /// Whether some form of these leaves to the block with this number.
 pub fn returns_to(number: u32, nodes: &[ExpandedNode]) -> bool
-    ensures { (e : Expansion) → nodes.now ≡ flat e → result ≡ Rows.returns_to number e }
+    ensures { (e : Expansion) → nodes.now ≡ flat e → result ≡ Blocks.returns_to number e }
 {
     // How many of the next forms belong to functions.
     let mut skipped: u128 = 0;
@@ -72,14 +72,14 @@ pub fn skipped_behind(skipped: u128, node: &ExpandedNode) -> u128
 
 /// A number without the level with that number.
 fn less(number: u32, other: u32) -> u32
-    ensures { result ≡ Rows.less number other }
+    ensures { result ≡ Blocks.less number other }
 {
     if other > number { other - 1 } else { other }
 }
 
 /// A kind of form without the level with this number.
 fn lowered_core(number: u32, kind: CoreKind) -> CoreKind
-    ensures { result ≡ Rows.lowered_core number kind }
+    ensures { result ≡ Blocks.lowered_core number kind }
 {
     match kind {
         CoreKind::Local(x) => CoreKind::Local(less(number, x)),
@@ -96,7 +96,7 @@ fn lowered_core(number: u32, kind: CoreKind) -> CoreKind
 
 /// What stands for a form, without the level with this number.
 fn lowered_kind(number: u32, kind: Expanded) -> Expanded
-    ensures { result ≡ Rows.lowered_kind number kind }
+    ensures { result ≡ Blocks.lowered_kind number kind }
 {
     match kind {
         Expanded::Form(kind) => Expanded::Form(lowered_core(number, kind)),
@@ -106,7 +106,7 @@ fn lowered_kind(number: u32, kind: Expanded) -> Expanded
 
 /// Writes these without the level with this number.
 fn push_lowered(number: u32, body: &[ExpandedNode], nodes: &mut Writer<ExpandedNode>)
-    ensures { (e : Expansion) → body.now ≡ flat e → Wrote nodes.old nodes.new (flat (Rows.lowered number e)) }
+    ensures { (e : Expansion) → body.now ≡ flat e → Wrote nodes.old nodes.new (flat (Blocks.lowered number e)) }
 {
     // How many of the next forms belong to functions.
     let mut skipped: u128 = 0;
@@ -144,7 +144,7 @@ pub fn push_blocked(
     body: &[ExpandedNode],
     nodes: &mut Writer<ExpandedNode>,
 )
-    ensures { (e : Expansion) → body.now ≡ flat e → count ≡ count_of e → Wrote nodes.old nodes.new (flat (Rows.blocked number place e)) }
+    ensures { (e : Expansion) → body.now ≡ flat e → count ≡ count_of e → Wrote nodes.old nodes.new (flat (Blocks.blocked number place e)) }
 {
     if !returns_to(number, body) {
         return push_lowered(number, body, nodes);
@@ -155,7 +155,7 @@ pub fn push_blocked(
 
 /// How many forms a body of so many is in its implicit block.
 pub fn blocked_parts(number: u32, count: u32, body: &[ExpandedNode]) -> u32
-    ensures { (place : ℕ) (e : Expansion) → body.now ≡ flat e → count ≡ count_of e → result ≡ count_of (Rows.blocked number place e) }
+    ensures { (place : ℕ) (e : Expansion) → body.now ≡ flat e → count ≡ count_of e → result ≡ count_of (Blocks.blocked number place e) }
 {
     if returns_to(number, body) { 1 } else { count }
 }

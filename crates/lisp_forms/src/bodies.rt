@@ -4,7 +4,7 @@ ghost use Rattle.lisp_base.specs.Writing.{Wrote};
 ghost use Rattle.form_shapes.specs.Contexts.{scope_at};
 ghost use Rattle.form_shapes.specs.Scopes.{Scope, inside as inside_of};
 ghost use Rattle.form_shapes.specs.Bindings.{received_by};
-ghost use Rattle.lisp_forms.specs.Expansion.{body_in, clauses_behind, clause_in, clauses_in, forms_in, within_first};
+ghost use Rattle.lisp_forms.specs.Expansion.{body_in, clause_in, clauses_behind, clauses_in, forms_in, parts_in, within_first};
 ghost use Rattle.lisp_forms.specs.Flat.{flat, flat_one};
 ghost use Rattle.lisp_forms.specs.Rows;
 ghost use Rattle.lisp_forms.specs.Trees.{first as first_of, form, in_front};
@@ -58,7 +58,7 @@ pub fn push_local_interrupts(
     arguments: Items,
     nodes: &mut Writer<ExpandedNode>,
 )
-    ensures { Wrote nodes.old nodes.new (flat_one (Rows.local_form number place (body_in (scope_at base.now levels.now depth) 0 arguments.entry))) }
+    ensures { Wrote nodes.old nodes.new (flat_one (Rows.local_interrupts_form (scope_at base.now levels.now depth) place number (parts_in (scope_at base.now levels.now depth) place arguments.entry))) }
 {
     push_form(CoreKind::AllowWithInterrupts(number), place, 1, nodes);
     push_body_form(

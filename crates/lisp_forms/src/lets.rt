@@ -1,10 +1,10 @@
 ghost use Rattle.std.specs.Prelude.{◌≡◌, ◌<◌, ◌^◌, IfOk, Some, length};
 ghost use Rattle.lisp_base.specs.Writing.{Wrote};
-ghost use Rattle.form_shapes.specs.Bindings.{bound_in, opened as opened_of};
+ghost use Rattle.form_shapes.specs.Bindings.{bound_in};
 ghost use Rattle.form_shapes.specs.Contexts.{scope_at};
 ghost use Rattle.form_shapes.specs.One.{let_variables};
 ghost use Rattle.form_shapes.specs.Scopes.{Scope};
-ghost use Rattle.lisp_forms.specs.Expansion.{body_in, turn_first, values_first, values_in};
+ghost use Rattle.lisp_forms.specs.Expansion.{parts_in, values_in};
 ghost use Rattle.lisp_forms.specs.Flat.{flat, flat_one};
 ghost use Rattle.lisp_forms.specs.Written.{bind_nodes, forms_under, number_behind, turn_nodes, turn_parts};
 ghost use Rattle.lisp_forms.specs.Firsts.{bound_value};
@@ -36,7 +36,7 @@ pub fn push_let(
     arguments: Items,
     nodes: &mut Writer<ExpandedNode>,
 )
-    ensures { Wrote nodes.old nodes.new (flat_one (let_form (scope_at base.now levels.now depth) place (let_variables arguments.entry) (values_first (scope_at base.now levels.now depth) arguments.entry) (body_in (opened_of (scope_at base.now levels.now depth) (let_variables arguments.entry)) 1 arguments.entry))) }
+    ensures { Wrote nodes.old nodes.new (flat_one (let_form (scope_at base.now levels.now depth) place (let_variables arguments.entry) (parts_in (scope_at base.now levels.now depth) place arguments.entry))) }
 {
     let Ok(variables) = variables_in(alloc, &arguments) else {
         return nodes.fill();
@@ -173,7 +173,7 @@ pub fn push_let_star(
     arguments: Items,
     nodes: &mut Writer<ExpandedNode>,
 )
-    ensures { Wrote nodes.old nodes.new (flat_one (let_star_form (scope_at base.now levels.now depth) place (let_variables arguments.entry) (turn_first (scope_at base.now levels.now depth) arguments.entry) (body_in (opened_of (scope_at base.now levels.now depth) (let_variables arguments.entry)) 1 arguments.entry))) }
+    ensures { Wrote nodes.old nodes.new (flat_one (let_star_form (scope_at base.now levels.now depth) place (let_variables arguments.entry) (parts_in (scope_at base.now levels.now depth) place arguments.entry))) }
 {
     let Ok(variables) = variables_in(alloc, &arguments) else {
         return nodes.fill();

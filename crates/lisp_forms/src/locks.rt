@@ -1,11 +1,9 @@
 ghost use Rattle.std.specs.Prelude.{◌≡◌, IfOk};
 ghost use Rattle.lisp_base.specs.Writing.{Wrote};
 ghost use Rattle.form_shapes.specs.Contexts.{scope_at};
-ghost use Rattle.form_shapes.specs.Scopes.{deeper};
-ghost use Rattle.lisp_forms.specs.Expansion.{body_in, forms_in, in_lock, within_first};
+ghost use Rattle.lisp_forms.specs.Expansion.{forms_in, parts_in};
 ghost use Rattle.lisp_forms.specs.Flat.{flat_one};
 ghost use Rattle.lisp_forms.specs.Rows;
-ghost use Rattle.lisp_forms.specs.Trees.{first as first_of, others};
 ghost use Rattle.lisp_forms.specs.Written.{either_nodes, grab_nodes, lock_of, locked_nodes, region_nodes};
 
 use crate::expand::{push_all, push_by_roles, push_head};
@@ -135,7 +133,7 @@ pub fn push_mutex(
     arguments: Items,
     nodes: &mut Writer<ExpandedNode>,
 )
-    ensures { Wrote nodes.old nodes.new (flat_one (Rows.mutex_form (scope_at base.now levels.now depth).depth place waitp timeout (first_of place (within_first (scope_at base.now levels.now depth) (Roles.From 0) arguments.entry)) (within_first (in_lock (scope_at base.now levels.now depth)) (Roles.Values 1) arguments.entry) (body_in (in_lock (scope_at base.now levels.now depth)) 1 arguments.entry))) }
+    ensures { Wrote nodes.old nodes.new (flat_one (Rows.mutex_form (scope_at base.now levels.now depth) place waitp timeout (parts_in (scope_at base.now levels.now depth) place arguments.entry))) }
 {
     let Ok(lock) = lock_at(depth) else {
         return nodes.fill();
@@ -171,7 +169,7 @@ pub fn push_lock(
     arguments: Items,
     nodes: &mut Writer<ExpandedNode>,
 )
-    ensures { Wrote nodes.old nodes.new (flat_one (Rows.lock_form (scope_at base.now levels.now depth).depth place (first_of place (within_first (scope_at base.now levels.now depth) (Roles.From 0) arguments.entry)) (body_in (in_lock (scope_at base.now levels.now depth)) 1 arguments.entry))) }
+    ensures { Wrote nodes.old nodes.new (flat_one (Rows.lock_form (scope_at base.now levels.now depth) place (parts_in (scope_at base.now levels.now depth) place arguments.entry))) }
 {
     let Ok(lock) = lock_at(depth) else {
         return nodes.fill();
@@ -234,7 +232,7 @@ pub fn push_timeout(
     arguments: Items,
     nodes: &mut Writer<ExpandedNode>,
 )
-    ensures { Wrote nodes.old nodes.new (flat_one (Rows.timeout_form (scope_at base.now levels.now depth).depth place (first_of place (forms_in (deeper (scope_at base.now levels.now depth)) arguments.entry)) (others (forms_in (deeper (scope_at base.now levels.now depth)) arguments.entry)))) }
+    ensures { Wrote nodes.old nodes.new (flat_one (Rows.timeout_form (scope_at base.now levels.now depth) place (parts_in (scope_at base.now levels.now depth) place arguments.entry))) }
 {
     let timer = depth;
     let Ok(inner) = next(timer) else {

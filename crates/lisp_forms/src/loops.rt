@@ -1,11 +1,10 @@
 ghost use Rattle.std.specs.Prelude.{◌≡◌, IfOk};
 ghost use Rattle.lisp_base.specs.Writing.{Wrote};
 ghost use Rattle.form_shapes.specs.Contexts.{scope_at, with_opened};
-ghost use Rattle.form_shapes.specs.Scopes.{inside as inside_of};
-ghost use Rattle.lisp_forms.specs.Expansion.{body_in, in_dotimes, in_turn, result_of, within_first};
+ghost use Rattle.lisp_forms.specs.Expansion.{body_in, parts_in, within_first};
+ghost use Rattle.lisp_forms.specs.Rows.{in_dotimes, in_turn, result_of};
 ghost use Rattle.lisp_forms.specs.Flat.{flat_one};
 ghost use Rattle.lisp_forms.specs.Rows;
-ghost use Rattle.lisp_forms.specs.Trees.{second};
 ghost use Rattle.lisp_forms.specs.Written.{turn_head};
 
 use crate::blocks::push_blocked;
@@ -38,7 +37,7 @@ pub fn push_loop(
     arguments: Items,
     nodes: &mut Writer<ExpandedNode>,
 )
-    ensures { Wrote nodes.old nodes.new (flat_one (Rows.loop_form (scope_at base.now levels.now depth).depth place (body_in (inside_of (scope_at base.now levels.now depth) (Level.Block 0)) 0 arguments.entry))) }
+    ensures { Wrote nodes.old nodes.new (flat_one (Rows.loop_form (scope_at base.now levels.now depth) place (parts_in (scope_at base.now levels.now depth) place arguments.entry))) }
 {
     let Ok(open) = level_within(alloc, base, levels, depth, Level::Block(SymbolId::nil())) else {
         return nodes.fill();
@@ -76,7 +75,7 @@ pub fn push_dotimes(
     arguments: Items,
     nodes: &mut Writer<ExpandedNode>,
 )
-    ensures { Wrote nodes.old nodes.new (flat_one (Rows.dotimes_form (scope_at base.now levels.now depth) place variable (scope_at base.now levels.now depth).depth (second place (within_first (inside_of (scope_at base.now levels.now depth) (Level.Block 0)) (Roles.From 0) arguments.entry)) (body_in (in_turn (scope_at base.now levels.now depth) variable) 1 arguments.entry) (result_of (within_first (in_turn (scope_at base.now levels.now depth) variable) (Roles.From 0) arguments.entry)))) }
+    ensures { Wrote nodes.old nodes.new (flat_one (Rows.dotimes_form (scope_at base.now levels.now depth) place variable (parts_in (scope_at base.now levels.now depth) place arguments.entry))) }
 {
     let Ok(block) = level_within(alloc, base, levels, depth, Level::Block(SymbolId::nil())) else {
         return nodes.fill();
@@ -115,7 +114,7 @@ fn push_turns(
     arguments: Items,
     nodes: &mut Writer<ExpandedNode>,
 )
-    ensures { Wrote nodes.old nodes.new (flat_one (Rows.turns_form (scope_at base.now levels.now depth) place variable (scope_at base.now levels.now depth).depth (body_in (in_turn (scope_at base.now levels.now depth) variable) 1 arguments.entry) (result_of (within_first (in_turn (scope_at base.now levels.now depth) variable) (Roles.From 0) arguments.entry)))) }
+    ensures { Wrote nodes.old nodes.new (flat_one (Rows.turns_form (scope_at base.now levels.now depth) place variable (body_in (in_turn (scope_at base.now levels.now depth) variable) 1 arguments.entry) (result_of (within_first (in_turn (scope_at base.now levels.now depth) variable) (Roles.From 0) arguments.entry)))) }
 {
     let Ok(mut open) = opened_turns(alloc, base, levels, depth) else {
         return nodes.fill();

@@ -1,15 +1,15 @@
 ghost use Rattle.std.specs.Prelude.{◌≡◌, ℕ};
-ghost use Rattle.lisp_base.specs.Forest.{count_of, joined};
+ghost use Rattle.lisp_base.specs.Forest.{count_of};
 ghost use Rattle.lisp_base.specs.Writing.{Wrote};
 ghost use Rattle.form_shapes.specs.Contexts.{scope_at};
 ghost use Rattle.form_shapes.specs.One.{place_by as place_of, symbol_by as symbol_of};
-ghost use Rattle.form_shapes.specs.Scopes.{Scope, deeper, target_in};
-ghost use Rattle.lisp_forms.specs.Expansion.{body_in, by_roles, conds_in, forms_in, ors_in, pairs_in};
+ghost use Rattle.form_shapes.specs.Scopes.{Scope, target_in};
+ghost use Rattle.lisp_forms.specs.Expansion.{conds_in, forms_in, ors_in, pairs_in, parts_in};
 ghost use Rattle.lisp_forms.specs.Flat.{flat, flat_one};
 ghost use Rattle.lisp_forms.specs.Written.{clause_nodes, either_nodes};
 ghost use Rattle.lisp_forms.specs.Firsts.{first_form};
 ghost use Rattle.lisp_forms.specs.Rows;
-ghost use Rattle.lisp_forms.specs.Trees.{first as first_of, form, nil_form, only, progn_form};
+ghost use Rattle.lisp_forms.specs.Trees.{progn_form};
 
 use crate::expand::{push_all, push_by_roles, push_first, push_head};
 use crate::nodes::{
@@ -45,7 +45,7 @@ pub fn push_over_nil(
     arguments: Items,
     nodes: &mut Writer<ExpandedNode>,
 )
-    ensures { Wrote nodes.old nodes.new (flat_one (form kind place (joined (by_roles (scope_at base.now levels.now depth) roles 0 arguments.entry) (only (nil_form place))))) }
+    ensures { Wrote nodes.old nodes.new (flat_one (Rows.over_nil_form (scope_at base.now levels.now depth) place kind roles (parts_in (scope_at base.now levels.now depth) place arguments.entry))) }
 {
     let parts = parts_of(roles, arguments.count()) + 1;
     push_form(kind, place, parts, nodes);
@@ -81,7 +81,7 @@ pub fn push_when(
     arguments: Items,
     nodes: &mut Writer<ExpandedNode>,
 )
-    ensures { Wrote nodes.old nodes.new (flat_one (Rows.when_form place (forms_in (scope_at base.now levels.now depth) arguments.entry))) }
+    ensures { Wrote nodes.old nodes.new (flat_one (Rows.when_form (scope_at base.now levels.now depth) place (parts_in (scope_at base.now levels.now depth) place arguments.entry))) }
 {
     let body = rest(&arguments, 1);
     push_form(CoreKind::If, place, 3, nodes);
@@ -101,7 +101,7 @@ pub fn push_unless(
     arguments: Items,
     nodes: &mut Writer<ExpandedNode>,
 )
-    ensures { Wrote nodes.old nodes.new (flat_one (Rows.unless_form place (forms_in (scope_at base.now levels.now depth) arguments.entry))) }
+    ensures { Wrote nodes.old nodes.new (flat_one (Rows.unless_form (scope_at base.now levels.now depth) place (parts_in (scope_at base.now levels.now depth) place arguments.entry))) }
 {
     let body = rest(&arguments, 1);
     push_form(CoreKind::If, place, 3, nodes);
@@ -231,7 +231,7 @@ pub fn push_and(
     arguments: Items,
     nodes: &mut Writer<ExpandedNode>,
 )
-    ensures { Wrote nodes.old nodes.new (flat_one (Rows.and_form place (forms_in (scope_at base.now levels.now depth) arguments.entry))) }
+    ensures { Wrote nodes.old nodes.new (flat_one (Rows.and_form (scope_at base.now levels.now depth) place (parts_in (scope_at base.now levels.now depth) place arguments.entry))) }
 {
     if arguments.count() == 0 {
         return push_true(place, nodes);
@@ -259,7 +259,7 @@ pub fn push_prog1(
     arguments: Items,
     nodes: &mut Writer<ExpandedNode>,
 )
-    ensures { Wrote nodes.old nodes.new (flat_one (Rows.prog1_form (scope_at base.now levels.now depth).depth place (first_of place (forms_in (scope_at base.now levels.now depth) arguments.entry)) (body_in (deeper (scope_at base.now levels.now depth)) 1 arguments.entry))) }
+    ensures { Wrote nodes.old nodes.new (flat_one (Rows.prog1_form (scope_at base.now levels.now depth) place (parts_in (scope_at base.now levels.now depth) place arguments.entry))) }
 {
     let number = depth;
     let Ok(inner) = next(depth) else {
@@ -289,7 +289,7 @@ pub fn push_setq(
     arguments: Items,
     nodes: &mut Writer<ExpandedNode>,
 )
-    ensures { Wrote nodes.old nodes.new (flat_one (Rows.as_one place (pairs_in (scope_at base.now levels.now depth) place arguments.entry))) }
+    ensures { Wrote nodes.old nodes.new (flat_one (Rows.setq_form (scope_at base.now levels.now depth) place (parts_in (scope_at base.now levels.now depth) place arguments.entry))) }
 {
     let count = count_pairs(&arguments);
     if count == 0 {
@@ -387,7 +387,7 @@ pub fn push_change(
     arguments: Items,
     nodes: &mut Writer<ExpandedNode>,
 )
-    ensures { Wrote nodes.old nodes.new (flat_one (Rows.change_form place target function (forms_in (scope_at base.now levels.now depth) arguments.entry))) }
+    ensures { Wrote nodes.old nodes.new (flat_one (Rows.change_form (scope_at base.now levels.now depth) place target function (parts_in (scope_at base.now levels.now depth) place arguments.entry))) }
 {
     let amount = rest(&arguments, 1);
     push_form(set_kind(&target), place, 1, nodes);
@@ -411,7 +411,7 @@ pub fn push_fold(
     arguments: Items,
     nodes: &mut Writer<ExpandedNode>,
 )
-    ensures { Wrote nodes.old nodes.new (flat_one (Rows.fold_form place function (forms_in (scope_at base.now levels.now depth) arguments.entry))) }
+    ensures { Wrote nodes.old nodes.new (flat_one (Rows.fold_form (scope_at base.now levels.now depth) place function (parts_in (scope_at base.now levels.now depth) place arguments.entry))) }
 {
     let count = arguments.count();
     if count == 0 {
@@ -438,7 +438,7 @@ pub fn push_twice(
     arguments: Items,
     nodes: &mut Writer<ExpandedNode>,
 )
-    ensures { Wrote nodes.old nodes.new (flat_one (Rows.twice_form (scope_at base.now levels.now depth).depth place function (first_of place (forms_in (scope_at base.now levels.now depth) arguments.entry)))) }
+    ensures { Wrote nodes.old nodes.new (flat_one (Rows.twice_form (scope_at base.now levels.now depth) place function (parts_in (scope_at base.now levels.now depth) place arguments.entry))) }
 {
     let number = depth;
     push_form(CoreKind::Let, place, 2, nodes);
@@ -460,7 +460,7 @@ pub fn push_ignore(
     arguments: Items,
     nodes: &mut Writer<ExpandedNode>,
 )
-    ensures { Wrote nodes.old nodes.new (flat_one (Rows.ignore_form place (forms_in (scope_at base.now levels.now depth) arguments.entry))) }
+    ensures { Wrote nodes.old nodes.new (flat_one (Rows.ignore_form (scope_at base.now levels.now depth) place (parts_in (scope_at base.now levels.now depth) place arguments.entry))) }
 {
     push_form(CoreKind::HandlerCase, place, 2, nodes);
     push_progn(alloc, base, levels, depth, place, arguments, nodes);
@@ -479,7 +479,7 @@ pub fn push_terminate(
     arguments: Items,
     nodes: &mut Writer<ExpandedNode>,
 )
-    ensures { Wrote nodes.old nodes.new (flat_one (Rows.terminate_form place (forms_in (scope_at base.now levels.now depth) arguments.entry))) }
+    ensures { Wrote nodes.old nodes.new (flat_one (Rows.terminate_form (scope_at base.now levels.now depth) place (parts_in (scope_at base.now levels.now depth) place arguments.entry))) }
 {
     push_form(CoreKind::Serve(Service::InterruptThread), place, 2, nodes);
     push_head(alloc, base, levels, depth, place, arguments, nodes);
