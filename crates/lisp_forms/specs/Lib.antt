@@ -6,3 +6,4 @@ pub mod Known
 pub mod Firsts
 pub mod Flat
 pub mod Written
+pub mod Laws
