@@ -4,6 +4,7 @@ pub mod Binds
 pub mod Specials
 pub mod Skipping
 pub mod Limits
+pub mod Told
 pub mod Cores
 pub mod Lambdas
 pub mod Tops

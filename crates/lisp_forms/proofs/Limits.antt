@@ -63,7 +63,7 @@ places_end ps i ns e h so_far is =
     sym (append-nil ps) ∙ sym (ap (λ ms. ps ++ places_in ms) (drop_of_length-le ns {i = i} h)) ∙ so_far ∙ ap places_in is ∙ places_in-flat e
 
 -- one place more or not
-before-first : (q p : ℕ) (ps : List ℕ) → before q (p ∷ ps) ≡ one_before q p + before q ps
+pub before-first : (q p : ℕ) (ps : List ℕ) → before q (p ∷ ps) ≡ one_before q p + before q ps
 before-first q p ps = by (nat_lt p q)
   where
     by : (t : Bool) → (if t then suc (before q ps) else before q ps) ≡ (if t then 1 else 0) + before q ps
@@ -88,7 +88,7 @@ before-append q [] ys = omega arith
 before-append q (x ∷ xs) ys = omega (arith, before-first q x (xs ++ ys), before-first q x xs, before-append q xs ys)
 
 -- none comes before itself
-not_before : (q : ℕ) → one_before q q ≡ 0
+pub not_before : (q : ℕ) → one_before q q ≡ 0
 not_before q = by (nat_lt q q) refl
   where
     by : (t : Bool) → nat_lt q q ≡ t → ◌≡◌ {A = ℕ} (if t then 1 else 0) 0

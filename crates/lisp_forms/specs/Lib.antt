@@ -8,3 +8,4 @@ pub mod Known
 pub mod Firsts
 pub mod Flat
 pub mod Written
+pub mod Laws

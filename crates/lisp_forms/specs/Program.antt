@@ -1,5 +1,6 @@
 -- What a whole program stands for.
 use Rattle.std.specs.Prelude.{◌≡◌, ℕ, suc, List, [], ◌∷◌, ◌++◌, Bool, true, false, ◌&&◌, ◌||◌, ◌==◌, Option, Some, None, if◌then◌else◌, nat_lt, length, not}
+use Rattle.std.specs.Option.{is_some}
 use Rattle.lisp_base.specs.Forest.{NoTrees, Tree}
 use Rattle.lisp_base.specs.declared.id.FunctionName.TheVariants.{Named, At}
 use Rattle.lisp_base.specs.declared.value.Node.TheVariants.{Symbol as ASymbol}
@@ -58,13 +59,13 @@ abbrev pub is_shapeless : Option ℕ → Bool
 is_shapeless None = false
 is_shapeless (Some number) = number == 12
 
--- the function that a list with this operator and these arguments defines
+-- the name of the function of a list with this operator and these arguments, where it is a `defun` with its shape
 abbrev pub function_by : List (List ℕ) → Option Operator → Data → Option ℕ
 function_by names (Some op.Defun) args =
     if is_shapeless (list_fault names (parameters_of (behind 1 args))) then None else as_variable names (first_symbol args)
 function_by names _ args = None
 
--- the function that a list of these defines at top level
+-- the name of the function of a list of these, where it is a `defun` with its shape
 abbrev pub function_in : List (List ℕ) → Data → Option ℕ
 function_in names under = function_by names (built_in names (first_symbol under)) (behind 1 under)
 
@@ -74,11 +75,20 @@ definition_of names NoData = None
 definition_of names (Atom leaf p beside) = None
 definition_of names (Listed p under beside) = definition_in names under
 
--- the function that a datum defines
+-- a symbol has the name of an operator or function of the language
+abbrev pub is_built_in : List (List ℕ) → ℕ → Bool
+is_built_in names x = is_some (operator_named (name_of names x))
+
+-- the name of a function, where there is one and the language has none of that name
+abbrev pub own_name : List (List ℕ) → Option ℕ → Option ℕ
+own_name names None = None
+own_name names (Some f) = if is_built_in names f then None else Some f
+
+-- the function that a datum defines: none has a name of the language
 abbrev pub function_of : List (List ℕ) → Data → Option ℕ
 function_of names NoData = None
 function_of names (Atom leaf p beside) = None
-function_of names (Listed p under beside) = function_in names under
+function_of names (Listed p under beside) = own_name names (function_in names under)
 
 -- a name after others, where there is one and it is new
 abbrev pub with_name : Option ℕ → List ℕ → List ℕ
@@ -121,20 +131,16 @@ variable_shape known p x by_defvar args =
     else if length known == most_specials then shape.Wrong 17 p
     else definition_shape x by_defvar args
 
--- there is an operator or function
-abbrev pub is_built_in : Option Operator → Bool
-is_built_in None = false
-is_built_in (Some operator) = true
+-- a function may be defined by this name: the language has none of that name, and none is defined before
+abbrev pub is_new : List (List ℕ) → List ℕ → ℕ → Bool
+is_new names known f = not (has known f || is_built_in names f)
 
--- A definition of a function whose parameters have this fault or none, where these functions are defined before it. A second
--- one does not count among the functions.
+-- A definition of a function whose parameters have this fault or none, where these functions are defined before it. One whose
+-- name is not new is refused and does not count among the functions.
 abbrev pub defun_shape : List (List ℕ) → List ℕ → ℕ → ℕ → Option ℕ → Shape
 defun_shape names known p f (Some number) =
-    if (number == 18) && not (has known f) then shape.Leaf (RefusedFunction 18) else shape.Wrong number p
-defun_shape names known p f None =
-    if has known f then shape.Wrong 18 p
-    else if is_built_in (operator_named (name_of names f)) then shape.Leaf (RefusedFunction 18)
-    else shape.Defun f
+    if (number == 18) && is_new names known f then shape.Leaf (RefusedFunction 18) else shape.Wrong number p
+defun_shape names known p f None = if is_new names known f then shape.Defun f else shape.Wrong 18 p
 
 -- an operator of the top level that is ignored there
 abbrev pub is_ignored : Option Operator → Bool

@@ -5,6 +5,7 @@ mod blocks;
 mod bodies;
 mod expand;
 pub mod expander;
+pub mod laws;
 mod lets;
 mod locks;
 mod loops;

@@ -53,7 +53,7 @@ pub fn definition_in(symbols: &Symbols, under: &Items) -> Option<SymbolId>
     }
 }
 
-/// The function that a `defun` with these arguments defines.
+/// The name of the function of a `defun` with these arguments, where it has its shape.
 fn function_by(
     alloc: Global,
     symbols: &Symbols,
@@ -68,7 +68,7 @@ fn function_by(
     }
 }
 
-/// The function that a list of these defines at top level.
+/// The name of the function of a list of these, where it is a `defun` with its shape.
 pub fn function_in(
     alloc: Global,
     symbols: &Symbols,
@@ -93,7 +93,25 @@ pub fn definition_of(symbols: &Symbols, datum: &Datum) -> Option<SymbolId>
     }
 }
 
-/// The function that a datum defines at top level.
+/// Whether a symbol has the name of an operator or function of the language.
+pub fn is_built_in(symbols: &Symbols, symbol: SymbolId) -> bool
+    ensures { result ≡ Program.is_built_in symbols.now symbol }
+{
+    operator_named(name_of(symbols, symbol)).is_some()
+}
+
+/// The name of a function, where there is one and the language has none of that name.
+fn own_name(symbols: &Symbols, name: Option<SymbolId>) -> Option<SymbolId>
+    ensures { result ≡ Program.own_name symbols.now name }
+{
+    let symbol = name?;
+    if is_built_in(symbols, symbol) {
+        return None;
+    }
+    Some(symbol)
+}
+
+/// The function that a datum defines at top level. None has a name of the language.
 pub fn function_of(
     alloc: Global,
     symbols: &Symbols,
@@ -106,7 +124,7 @@ pub fn function_of(
     };
     match first {
         First::Leaf(_, _) => Ok(None),
-        First::List(_, under) => function_in(alloc, symbols, &under),
+        First::List(_, under) => Ok(own_name(symbols, function_in(alloc, symbols, &under)?)),
     }
 }
 

@@ -11,16 +11,17 @@ ghost use Rattle.lisp_forms.specs.Program;
 use crate::blocks::{blocked_parts, push_blocked};
 use crate::expand::{push_all, push_shaped};
 use crate::nodes::push_node;
-use crate::program::{add_name, built_in, definition_in, definition_of, function_in, function_of};
+use crate::program::{
+    add_name, built_in, definition_in, definition_of, function_in, function_of, is_built_in,
+};
 use crate::special::{push_specials, special_parts};
 use form_shapes::bindings::{function_body_of, list_fault, parameters_in, parameters_of};
 use form_shapes::expanded::{Expanded, ExpandedNode};
-use form_shapes::function_names::operator_named;
 use form_shapes::keywords::Roles;
 use form_shapes::levels::{Level, Levels};
 use form_shapes::operator::Operator;
 use form_shapes::refusal::{DEFINED_TWICE, TOO_MANY, UNKNOWN_OPERATOR};
-use form_shapes::scope::{Base, first_symbol, has, name_of};
+use form_shapes::scope::{Base, first_symbol, has};
 use form_shapes::shape::Shape;
 use form_shapes::within::{leaf_within, received_within, shape_within};
 use lisp_base::id::{Place, SymbolId};
@@ -85,17 +86,12 @@ fn defun_shape(
 ) -> Shape
     ensures { result ≡ Program.defun_shape symbols.now known.now place name fault }
 {
-    let is_known = has(known, name);
+    let is_new = !has(known, name) && !is_built_in(symbols, name);
     match fault {
-        Some(DEFINED_TWICE) if !is_known => {
-            Shape::Leaf(Expanded::RefusedFunction(DEFINED_TWICE))
-        }
+        Some(DEFINED_TWICE) if is_new => Shape::Leaf(Expanded::RefusedFunction(DEFINED_TWICE)),
         Some(number) => Shape::Wrong(number, place),
-        None if is_known => Shape::Wrong(DEFINED_TWICE, place),
-        None if operator_named(name_of(symbols, name)).is_some() => {
-            Shape::Leaf(Expanded::RefusedFunction(DEFINED_TWICE))
-        }
-        None => Shape::Defun(name),
+        None if is_new => Shape::Defun(name),
+        None => Shape::Wrong(DEFINED_TWICE, place),
     }
 }
 

@@ -106,11 +106,12 @@ fn definitions_and_variables_are_expanded(rt: HostRuntime) -> Result<(), Fail> {
     check(
         &rt,
         rt.alloc(),
-        r#"cases: 19
+        r#"cases: 20
 -- definitions
 (defvar s) (defvar u 1) (defvar v 1 "what it is") (defvar w "a") => S (defvar U 1) (defvar V 1) (defvar W "a")
 (defparameter s 1) (defparameter u s "what it is") => (defparameter S 1) (defparameter U (special S))
 (in-package :cl-user) (declaim (speed 3)) (use-package :foo (1)) (in-package) => NIL NIL NIL NIL
+(in-package (foo) x) (declaim (lambda (x x)) 1.5 "a") (use-package () '(a)) => NIL NIL NIL
 (defun f () "what it does" 1) (defun g () "a") (defun h () "what it does" (declare (x))) => (defun F) (defun G) (defun H) (function F 0 1) (function G 0 "a") (function H 0)
 (make-thread (lambda () "a" 1)) (make-thread (lambda () "a")) => (make-thread (function 13)) (make-thread (function 45)) (function 13 0 1) (function 45 0 "a")
 -- `let` and `let*`

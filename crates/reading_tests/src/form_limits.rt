@@ -44,7 +44,7 @@ fn forms_have_64_variables_at_most(rt: HostRuntime) -> Result<(), Fail> {
     check(
         &rt,
         rt.alloc(),
-        r#"cases: 19
+        r#"cases: 21
 (let (‹64×x№ ›) 1) => accepted
 (let (‹65×x№ ›) 1) => refusal 17 at 0
 (let (‹65×(x№ (foo))›) 1) => refusal 17 at 0
@@ -53,6 +53,8 @@ fn forms_have_64_variables_at_most(rt: HostRuntime) -> Result<(), Fail> {
 (let (‹65×x№ ›nil) 1) => refusal 12 at 0
 (let* (‹64×x№ ›) x63) => accepted
 (let* (‹65×x№ ›) 1) => refusal 17 at 0
+(let* (‹65×x ›) 1) => refusal 17 at 0
+(let* (‹64×x№ ›) (let* (‹64×x№ ›) x63)) => accepted
 (let (‹64×x№ ›) (let (‹64×x№ ›) 1)) => accepted
 (defun f (‹64×x№ ›) x63) => accepted
 (defun f (‹65×x№ ›) 1) => refusal 17 at 0
@@ -110,12 +112,14 @@ fn programs_have_1024_functions_at_most(rt: HostRuntime) -> Result<(), Fail> {
     check(
         &rt,
         rt.alloc(),
-        r#"cases: 8
+        r#"cases: 10
 ‹1024×(defun f№ ())› => accepted
 ‹1024×(defun f№ ())›(defun g ()) => refusal 17 at 15274
 (g)‹1024×(defun f№ ())›(defun g ()) => refusal 17 at 15277
 ‹1024×(defun f№ ())›(defun f0 ()) => refusal 18 at 15274
-‹1024×(defun f№ ())›(defun print ()) => refusal 17 at 15274
+‹1024×(defun f№ ())›(defun print ()) => refusal 18 at 15274
+‹1024×(defun f№ ())›(defun print (x x)) => refusal 18 at 15274
+‹1023×(defun f№ ())›(make-thread (lambda ())) (defun progn ()) => refusal 18 at 15284
 ‹1024×(defun f№ ())›(defun g (x x)) => refusal 17 at 15274
 ‹1024×(defun f№ ())›(defun f0 (x x)) => refusal 18 at 15274
 ‹1024×(defun f№ ())›(defun g nil) => refusal 12 at 15274

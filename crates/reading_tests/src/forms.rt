@@ -8,7 +8,7 @@ fn forms_without_an_operator_are_refused(rt: HostRuntime) -> Result<(), Fail> {
     check(
         &rt,
         rt.alloc(),
-        r#"cases: 41
+        r#"cases: 44
 -- heads that are no symbols
 () => refusal 11 at 0
 (1 2) => refusal 11 at 0
@@ -51,6 +51,9 @@ fn forms_without_an_operator_are_refused(rt: HostRuntime) -> Result<(), Fail> {
 #'nil => refusal 11 at 0
 (make-thread #'foo) => refusal 11 at 13
 (make-thread #'print) => refusal 11 at 13
+(make-thread #'print) (defun print () 1) => refusal 11 at 13
+(make-thread (function +)) (defun + (x x) 1) => refusal 11 at 13
+#'progn (defun progn () 1) => refusal 11 at 0
 (make-thread (function foo)) => refusal 11 at 13
 (interrupt-thread *current-thread* #'foo) => refusal 11 at 35
 (defvar f 1) (make-thread #'f) => refusal 11 at 26
