@@ -6,6 +6,7 @@ pub mod Parted
 pub mod Blanks
 pub mod Literals
 pub mod Scans
+pub mod Runs
 pub mod Interned
 pub mod Named
 pub mod Used

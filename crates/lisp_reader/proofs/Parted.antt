@@ -9,7 +9,7 @@ use Rattle.lisp_reader.specs.Parts.{is_separator}
 use Rattle.lisp_reader.specs.Scanning.{is_token_letter}
 
 -- the part by the tests of a byte, one after the other
-abbrev by_tests : (sep semi text open' close quote : Bool) → (s c t o k q other : List Part) → List Part
+abbrev pub by_tests : (sep semi text open' close quote : Bool) → (s c t o k q other : List Part) → List Part
 by_tests sep semi text open' close quote s c t o k q other =
     cond sep s (cond semi c (cond text t (cond open' o (cond close k (cond quote q other)))))
 
@@ -26,7 +26,7 @@ other_case false false false false false true s c t o k q other h = cc
 other_case false false false false false false s c t o k q other h = refl
 
 -- where a byte passes a test, what is else does not matter
-same_case : (sep semi text open' close quote : Bool) (s c t o k q other other' : List Part)
+pub same_case : (sep semi text open' close quote : Bool) (s c t o k q other other' : List Part)
     → not (sep || semi || text || open' || close || quote) ≡ false
     → by_tests sep semi text open' close quote s c t o k q other ≡ by_tests sep semi text open' close quote s c t o k q other'
 same_case true semi text open' close quote s c t o k q other other' h = refl
@@ -170,7 +170,7 @@ token_in_front p b [] = refl
 token_in_front p b (c ∷ cs) = token_goes_on p b c cs (is_token_letter c) refl (token_in_front (suc p) c cs)
 
 -- a token at the front of a text
-front_token : (p b : ℕ) (bs : List ℕ) → is_token_letter b ≡ true → ((b == 35) && begins_with_quote bs) ≡ false
+pub front_token : (p b : ℕ) (bs : List ℕ) → is_token_letter b ≡ true → ((b == 35) && begins_with_quote bs) ≡ false
     → parts_from Between p (b ∷ bs)
     ≡ Token' p (take (prefix_len is_token_letter (b ∷ bs)) (b ∷ bs))
     ∷ parts_from Between (p + prefix_len is_token_letter (b ∷ bs)) (drop (prefix_len is_token_letter (b ∷ bs)) (b ∷ bs))

@@ -2,6 +2,7 @@ pub mod Meanings
 pub mod Parts
 pub mod Printing
 pub mod Scanning
+pub mod Tokens
 pub mod Tables
 pub mod Gathering
 pub mod Grammar

@@ -2,6 +2,7 @@ ghost use Rattle.std.specs.Prelude.{◌≡◌, IfOk};
 ghost use Rattle.std.specs.Result.{IfErr};
 ghost use Rattle.lisp_reader.specs.Reading.{IsRefusal, NeverBoth, OneReading, OneRefusal, ReadOrRefused, Reads};
 ghost use Rattle.lisp_reader.specs.Tables.{tables_of};
+ghost use Rattle.lisp_reader.specs.Tokens.{TokensAreRuns};
 
 use crate::build::nodes_of;
 use crate::gather::gather;
@@ -40,7 +41,7 @@ pub fn read_program(
     Ok(data)
 }
 
-/// A text has at most one reading. There is nothing to run: the clause is the law, as it is in the three functions below.
+/// A text has at most one reading. There is nothing to run: the clause is the law, as it is in the four functions below.
 pub fn one_reading()
     ensures { OneReading }
 {}
@@ -58,4 +59,9 @@ pub fn never_both()
 /// A text is refused with one number at one place.
 pub fn one_refusal()
     ensures { OneRefusal }
+{}
+
+/// Each token of a text is a longest run of bytes that may belong to a token.
+pub fn tokens_are_runs()
+    ensures { TokensAreRuns }
 {}
