@@ -1,30 +1,28 @@
 -- The forms that data stand for, with what is refused of them in its place.
 use Rattle.std.specs.Prelude.{ℕ, zero, suc, List, Bool, true, false, ◌&&◌, not, Option, Some, None, if◌then◌else◌, unwrap_or}
-use Rattle.lisp_base.specs.Forest.{NoTrees, Tree, joined}
+use Rattle.lisp_base.specs.Forest.{NoTrees}
 use Rattle.lisp_base.specs.declared.condition.Class.{Class}
 use Rattle.lisp_base.specs.declared.condition.Class.TheVariants.{Condition}
-use Rattle.lisp_program.specs.declared.form.CoreKind.TheVariants as k
 use Rattle.lisp_data.specs.Data.{Data, NoData, Atom, Listed}
 use Rattle.lisp_data.specs.declared.datum.Leaf.{Leaf}
 use Rattle.form_shapes.specs.declared.keywords.Role.{Role}
 use Rattle.form_shapes.specs.declared.keywords.Role.TheVariants.{Value, Place, Skipped}
 use Rattle.form_shapes.specs.declared.keywords.Roles.{Roles}
-use Rattle.form_shapes.specs.declared.keywords.Roles.TheVariants.{From, Values}
-use Rattle.form_shapes.specs.declared.levels.Level.TheVariants.{Block, Region}
+use Rattle.form_shapes.specs.declared.keywords.Roles.TheVariants.{From}
 use Rattle.form_shapes.specs.declared.scope.Target.{Target}
 use Rattle.form_shapes.specs.declared.shape.Shape.{Shape}
 use Rattle.form_shapes.specs.declared.shape.Shape.TheVariants as shape
-use Rattle.form_shapes.specs.Bindings.{bound_in_list, is_declaration, is_text, opened, opened_by, or_none, received_by, variables_of}
+use Rattle.form_shapes.specs.Bindings.{bound_in_list, is_declaration, is_text, opened_by, or_none, received_by, variables_of}
 use Rattle.form_shapes.specs.Clauses.{class_of, clause_variable}
 use Rattle.form_shapes.specs.Keywords.{role_at}
 use Rattle.form_shapes.specs.declared.place.Placed.{Placed}
 use Rattle.form_shapes.specs.declared.place.Placed.TheVariants.{Made, Inner, Other}
 use Rattle.form_shapes.specs.Places.{misplaced_kind, parameters_in, placed_of, scope_within}
-use Rattle.form_shapes.specs.Scopes.{Scope, deeper, inside, leaf_form, leaf_symbol, target_in}
+use Rattle.form_shapes.specs.Scopes.{Scope, leaf_form, leaf_symbol, target_in}
 use Rattle.form_shapes.specs.Shapes.{shape_of}
 use Rattle.lisp_forms.specs.Parts.{Parts}
 use Rattle.lisp_forms.specs.Rows
-use Rattle.lisp_forms.specs.Trees.{Expansion, Single, in_front, only, leaf, form, nil_form, refused, first, others, second}
+use Rattle.lisp_forms.specs.Trees.{Expansion, Single, in_front, leaf, nil_form, refused, first}
 
 -- What stands for a list of this shape at a place, with these variables of a `let`: a line for each shape, which names its row.
 abbrev pub list_form : Scope → ℕ → Shape → List ℕ → Parts → Single
