@@ -66,24 +66,25 @@ record IsUnder (m : ℕ) (ns : List DatumNode) (next : ℕ) : Type 0 where
   many : count_of (front m (data_of ns)) ≡ m
 
 -- a list's nodes are those of its items
-under_list : (m p : ℕ) (ns : List DatumNode) (next : ℕ) → IsEnd (node_at (AList m) p ∷ ns) 0 next → IsUnder m ns next
-under_list m p ns zero end = absurd (omega (arith, end.further))
-under_list m p ns (suc e) end =
+under_list : (m s p : ℕ) (ns : List DatumNode) (next : ℕ) → IsEnd (node_at (AList m s) p ∷ ns) 0 next → IsUnder m ns next
+under_list m s p ns zero end = absurd (omega (arith, end.further))
+under_list m s p ns (suc e) end =
     let d : Data = data_of ns in
     let all : suc e - 0 ≡ suc e = omega arith in
-    let h : node_at (AList m) p ∷ take e ns ≡ node_at (AList (count_of (front m d))) p ∷ (written (front m d) ++ []) = rw all at end.first in
-    let node : node_at (AList (count_of (front m d))) p ≡ node_at (AList m) p = cc in
-    let is : AList (count_of (front m d)) ≡ AList m = ap (λ (x : DatumNode). x.kind) node in
+    let size : ℕ = length (written (front m d)) in
+    let h : node_at (AList m s) p ∷ take e ns ≡ node_at (AList (count_of (front m d)) size) p ∷ (written (front m d) ++ []) = rw all at end.first in
+    let node : node_at (AList (count_of (front m d)) size) p ≡ node_at (AList m s) p = cc in
+    let is : AList (count_of (front m d)) size ≡ AList m s = ap (λ (x : DatumNode). x.kind) node in
     let one : suc e - 1 ≡ e = omega arith in
     let rest : take e ns ≡ written (front m d) ++ [] = cc in
     record { under = rw one (rest ∙ append-nil (written (front m d))); many = cc }
 
 -- a list's items are as many as it says
-pub first_items : (nodes : List DatumNode) (count m next : ℕ) (n : DatumNode) → AreItems nodes count → IsEnd nodes 0 next
-    → (get_or nodes 0 n).kind ≡ AList m → AreItems (take (next - 1) (drop 1 nodes)) m
-first_items [] count m next n items end is = absurd (omega (arith, end.further, end.inside))
-first_items (n' ∷ ns) count m next n items end is =
-    let at : IsUnder m ns next = under_list m n'.place ns next (subst (λ k. IsEnd (node_at k n'.place ∷ ns) 0 next) is end) in
+pub first_items : (nodes : List DatumNode) (count m s next : ℕ) (n : DatumNode) → AreItems nodes count → IsEnd nodes 0 next
+    → (get_or nodes 0 n).kind ≡ AList m s → AreItems (take (next - 1) (drop 1 nodes)) m
+first_items [] count m s next n items end is = absurd (omega (arith, end.further, end.inside))
+first_items (n' ∷ ns) count m s next n items end is =
+    let at : IsUnder m ns next = under_list m s n'.place ns next (subst (λ k. IsEnd (node_at k n'.place ∷ ns) 0 next) is end) in
     let read : data_of (take (next - 1) ns) ≡ front m (data_of ns) = ap data_of at.under ∙ data_back (front m (data_of ns)) in
     record {
       whole = ap written read ∙ sym at.under;
@@ -92,12 +93,12 @@ first_items (n' ∷ ns) count m next n items end is =
     }
 
 -- whole data are a list in front of nodes, with its items under it, and the others
-pub split_list : (nodes : List DatumNode) (m next : ℕ) (n : DatumNode) (first : First)
-    → first ≡ FirstList (get_or nodes 0 n).place (data_of (take (next - 1) (drop 1 nodes))) → IsEnd nodes 0 next → (get_or nodes 0 n).kind ≡ AList m
+pub split_list : (nodes : List DatumNode) (m s next : ℕ) (n : DatumNode) (first : First)
+    → first ≡ FirstList (get_or nodes 0 n).place (data_of (take (next - 1) (drop 1 nodes))) → IsEnd nodes 0 next → (get_or nodes 0 n).kind ≡ AList m s
     → data_of nodes ≡ with_first first (data_of (take (length nodes - next) (drop next nodes)))
-split_list [] m next n first f end is = absurd (omega (arith, end.further, end.inside))
-split_list (n' ∷ ns) m next n first f end is =
-    let at : IsUnder m ns next = under_list m n'.place ns next (subst (λ k. IsEnd (node_at k n'.place ∷ ns) 0 next) is end) in
+split_list [] m s next n first f end is = absurd (omega (arith, end.further, end.inside))
+split_list (n' ∷ ns) m s next n first f end is =
+    let at : IsUnder m ns next = under_list m s n'.place ns next (subst (λ k. IsEnd (node_at k n'.place ∷ ns) 0 next) is end) in
     let read : data_of (take (next - 1) ns) ≡ front m (data_of ns) = ap data_of at.under ∙ data_back (front m (data_of ns)) in
     let here : data_of (n' ∷ ns) ≡ Listed n'.place (front m (data_of ns)) (behind m (data_of ns)) = ap (λ k. begun k n'.place (data_of ns)) is in
     let others : data_of (take (length (n' ∷ ns) - next) (drop next (n' ∷ ns))) ≡ behind m (data_of ns) =

@@ -49,15 +49,23 @@ leaf_kind (Time t) = ATime t
 abbrev pub node_at : DatumKind → ℕ → DatumNode
 node_at k p = record { place = p; kind = k }
 
--- each datum before its items, and these before the data beside it; a list says how many items it has
+-- each datum before its items, and these before the data beside it; a list says how many items it has, and how many nodes these are
 abbrev pub written : Data → List DatumNode
 written NoData = []
 written (Atom leaf p beside) = node_at (leaf_kind leaf) p ∷ written beside
-written (Listed p under beside) = node_at (AList (count_of under)) p ∷ (written under ++ written beside)
+written (Listed p under beside) = node_at (AList (count_of under) (length (written under))) p ∷ (written under ++ written beside)
+
+-- how many nodes stand in a node, by what it says
+abbrev pub nodes_under : DatumKind → ℕ
+nodes_under (AList items nodes) = nodes
+nodes_under (AnInt z) = 0
+nodes_under (ASymbol s) = 0
+nodes_under (AText s) = 0
+nodes_under (ATime t) = 0
 
 -- a node before data: a list takes as many of them as it has items
 abbrev pub begun : DatumKind → ℕ → Data → Data
-begun (AList n) p d = Listed p (front n d) (behind n d)
+begun (AList items nodes) p d = Listed p (front items d) (behind items d)
 begun (AnInt z) p d = Atom (Int z) p d
 begun (ASymbol s) p d = Atom (Symbol s) p d
 begun (AText s) p d = Atom (Text s) p d

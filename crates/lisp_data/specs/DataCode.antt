@@ -1,6 +1,6 @@
 -- How the logic stores data: as the nodes that are written for them, which give them back.
 use Rattle.std.specs.Coded.{Coded, code_by, coded×, coded_list, coded_ℕ, coded_ℤ}
-use Rattle.std.proofs.Common.{◌≡◌, ℕ, zero, suc, ℤ, pos, List, [], ◌++◌, refl, ap, sym, ◌∙◌, append_assoc, append-nil}
+use Rattle.std.proofs.Common.{◌≡◌, ℕ, zero, suc, ℤ, pos, negsuc, List, [], ◌++◌, length, refl, ap, sym, ◌∙◌, append_assoc, append-nil}
 use Rattle.lisp_data.specs.declared.datum.DatumKind.{DatumKind}
 use Rattle.lisp_data.specs.declared.datum.DatumKind.TheVariants.{List as AList, Int as AnInt, Symbol as ASymbol, Text as AText, Time as ATime}
 use Rattle.lisp_data.specs.declared.datum.DatumNode.{DatumNode}
@@ -47,7 +47,7 @@ data_in_front (Listed p under beside) ns =
     let rest : data_of ((written under ++ written beside) ++ ns) ≡ joined under (joined beside (data_of ns)) =
     ap data_of (append_assoc (written under) (written beside) ns) ∙ data_in_front under (written beside ++ ns)
     ∙ ap (joined under) (data_in_front beside ns) in
-    ap (begun (AList (count_of under)) p) rest
+    ap (begun (AList (count_of under) (length (written under))) p) rest
     ∙ ap (λ e. Listed p e (behind (count_of under) (joined under (joined beside (data_of ns))))) (front_joined under (joined beside (data_of ns)))
     ∙ ap (Listed p under) (behind_joined under (joined beside (data_of ns)))
 
@@ -57,15 +57,20 @@ data_back d = ap data_of (sym (append-nil (written d))) ∙ data_in_front d [] �
 
 -- a kind as three numbers
 abbrev pub numbers_of : DatumKind → ℕ × (ℕ × ℤ)
-numbers_of (AList n) = (0, (n, pos 0))
+numbers_of (AList n s) = (0, (n, pos s))
 numbers_of (AnInt z) = (1, (0, z))
 numbers_of (ASymbol s) = (2, (s, pos 0))
 numbers_of (AText s) = (3, (s, pos 0))
 numbers_of (ATime t) = (4, (t, pos 0))
 
+-- a number that is not negative
+abbrev pub natural : ℤ → ℕ
+natural (pos n) = n
+natural (negsuc n) = 0
+
 -- the kind with these numbers
 abbrev pub kind_with : ℕ → ℕ → ℤ → DatumKind
-kind_with zero n z = AList n
+kind_with zero n z = AList n (natural z)
 kind_with (suc zero) n z = AnInt z
 kind_with (suc (suc zero)) n z = ASymbol n
 kind_with (suc (suc (suc zero))) n z = AText n
@@ -73,7 +78,7 @@ kind_with (suc (suc (suc (suc k)))) n z = ATime n
 
 -- the numbers give the kind back
 pub kind_back : (k : DatumKind) → kind_with (numbers_of k).0 (numbers_of k).1.0 (numbers_of k).1.1 ≡ k
-kind_back (AList n) = refl
+kind_back (AList n s) = refl
 kind_back (AnInt z) = refl
 kind_back (ASymbol s) = refl
 kind_back (AText s) = refl

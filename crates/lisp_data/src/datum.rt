@@ -1,5 +1,5 @@
 ghost use Rattle.std.specs.Prelude.{◌≡◌, ◌<◌, ◌^◌, length};
-ghost use Rattle.lisp_data.specs.Data.{IsDatum, count_of, data_of, leaf_kind, written};
+ghost use Rattle.lisp_data.specs.Data.{IsDatum, count_of, data_of, leaf_kind, nodes_under, written};
 
 use lisp_base::id::{Micros, Place, StringId, SymbolId};
 use std::marker::Model;
@@ -20,8 +20,8 @@ pub enum Leaf {
 /// What a node of data is.
 #[derive(Clone, Copy, Debug, PartialEq, Eq)]
 pub enum DatumKind {
-    /// A list of so many items.
-    List(u32),
+    /// A list of so many items, in which so many nodes stand.
+    List { items: u32, nodes: u32 },
     /// An integer: in data that were read, from -2^62 to 2^62 - 1.
     Int(i64),
     /// A symbol or a keyword.
@@ -69,6 +69,18 @@ impl Leaf {
             Leaf::Symbol(symbol) => DatumKind::Symbol(symbol),
             Leaf::Text(text) => DatumKind::Text(text),
             Leaf::Time(time) => DatumKind::Time(time),
+        }
+    }
+}
+
+impl DatumNode {
+    /// How many nodes stand in it: those in a list, and none in a leaf.
+    pub fn under(&self) -> u32
+        ensures { result ≡ nodes_under self.now.kind }
+    {
+        match self.kind {
+            DatumKind::List { nodes, .. } => nodes,
+            _ => 0,
         }
     }
 }

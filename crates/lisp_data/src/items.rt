@@ -71,11 +71,11 @@ impl<'a> Items<'a> {
             count: self.count - 1,
         };
         let first = match node.kind {
-            DatumKind::List(count) => First::List(
+            DatumKind::List { items, .. } => First::List(
                 node.place,
                 Items {
                     nodes: &self.nodes[1..end],
-                    count,
+                    count: items,
                 },
             ),
             DatumKind::Int(number) => First::Leaf(Leaf::Int(number), node.place),

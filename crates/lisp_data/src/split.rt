@@ -1,20 +1,10 @@
 ghost use Rattle.std.specs.Prelude.{◌≡◌, ◌<◌, ◌≤◌, ◌^◌, ◌-◌, drop, take, length, IfOk};
 ghost use Rattle.lisp_data.specs.Data.{AreWhole, behind, data_of, each, front, written};
-ghost use Rattle.lisp_data.specs.Splitting.{IsEnd, items_of};
+ghost use Rattle.lisp_data.specs.Splitting.{IsEnd};
 
-use crate::datum::{Datum, DatumKind, DatumNode};
+use crate::datum::{Datum, DatumNode};
 use lisp_base::memory::Memory;
 use std::alloc::Global;
-
-/// How many items stand under a node.
-fn items(node: &DatumNode) -> u32
-    ensures { result ≡ items_of node.now.kind }
-{
-    match node.kind {
-        DatumKind::List(count) => count,
-        _ => 0,
-    }
-}
 
 /// The node after the datum that begins at a node.
 pub fn end_of(nodes: &[DatumNode], at: usize) -> usize
@@ -23,13 +13,7 @@ pub fn end_of(nodes: &[DatumNode], at: usize) -> usize
     requires short { length nodes.now < 2 ^ 30 }
     ensures { IsEnd nodes.now at result }
 {
-    let mut open: u64 = 1;
-    let mut next = at;
-    while open > 0 && next < nodes.len() {
-        open = open - 1 + u64::from(items(&nodes[next]));
-        next += 1;
-    }
-    next
+    at + 1 + nodes[at].under() as usize
 }
 
 /// The data with these nodes, each by itself.

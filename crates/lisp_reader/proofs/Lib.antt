@@ -7,6 +7,7 @@ pub mod Blanks
 pub mod Literals
 pub mod Scans
 pub mod Runs
+pub mod Tokened
 pub mod Interned
 pub mod Named
 pub mod Used

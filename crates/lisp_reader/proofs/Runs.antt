@@ -84,7 +84,7 @@ none_left [] = refl
 none_left (b ∷ bs) = none_by b bs (is_token_letter b) refl (none_left bs)
 
 -- a letter is one of them
-some_letter : (b : ℕ) (bs : List ℕ) → is_token_letter b ≡ true → 0 < prefix_len is_token_letter (b ∷ bs)
+pub some_letter : (b : ℕ) (bs : List ℕ) → is_token_letter b ≡ true → 0 < prefix_len is_token_letter (b ∷ bs)
 some_letter b bs h = rw h (omega arith)
 
 -- where no run goes on, the letters at the beginning are a run
@@ -112,11 +112,11 @@ after_run text p n done bs is s =
     more text p n done (take n bs) (drop n bs) (rw (take-append-drop n bs) s) long
 
 -- a `#` before a quote begins with the quote
-sharp_front : (p b : ℕ) (bs : List ℕ) → b ≡ 35 → begins_with_quote bs ≡ true → parts_from Between p (b ∷ bs) ≡ Quotes true p ∷ parts_from Sharp (suc p) bs
+pub sharp_front : (p b : ℕ) (bs : List ℕ) → b ≡ 35 → begins_with_quote bs ≡ true → parts_from Between p (b ∷ bs) ≡ Quotes true p ∷ parts_from Sharp (suc p) bs
 sharp_front p b bs h k = rw (h, k) refl
 
 -- two tests that hold
-both_hold : (v w : Bool) → (v && w) ≡ true → (v ≡ true) × (w ≡ true)
+pub both_hold : (v w : Bool) → (v && w) ≡ true → (v ≡ true) × (w ≡ true)
 both_hold true w h = (refl, h)
 both_hold false w h = absurd (cc)
 
@@ -174,12 +174,12 @@ runs (suc n) text Between p done (b ∷ bs) few s apart =
     (λ sharp.
     let is = both_hold (b == 35) (begins_with_quote bs) sharp in
     let same : b ≡ 35 = grind (arith, nat_tests) in
-    rw (sharp_front p b bs same is.1) (quotes_run text true p _ (runs n text Sharp (suc p) (done ++ b ∷ []) bs few' s' is.1)))
+    rw (sharp_front p b bs same is.1) (quotes_run text true p (parts_from Sharp (suc p) bs) (runs n text Sharp (suc p) (done ++ b ∷ []) bs few' s' is.1)))
     (λ no_sharp.
     let k : ℕ = prefix_len is_token_letter (b ∷ bs) in
     let less : length (drop k (b ∷ bs)) ≤ n = omega (arith, length-drop k (b ∷ bs), some_letter b bs h) in
     rw (front_token p b bs h no_sharp)
-    (All-cons (IsRun text) (Token' p (take k (b ∷ bs))) _ (first_run text p b done bs h s apart)
+    (All-cons (IsRun text) (Token' p (take k (b ∷ bs))) (parts_from Between (p + k) (drop k (b ∷ bs))) (first_run text p b done bs h s apart)
     (runs n text Between (p + k) (done ++ take k (b ∷ bs)) (drop k (b ∷ bs)) less (after_run text p k done (b ∷ bs) refl s)
     (before_none (done ++ take k (b ∷ bs)) (drop k (b ∷ bs)) (none_left (b ∷ bs))))))
     (cases_Bool ((b == 35) && begins_with_quote bs)) in

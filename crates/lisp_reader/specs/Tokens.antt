@@ -1,7 +1,7 @@
--- The law of tokens: a token of a text is a longest run of bytes that may belong to one.
-use Rattle.std.specs.Prelude.{◌≡◌, ◌<◌, ℕ, List, [], ◌∷◌, ◌++◌, Bool, true, false, length, reverse}
+-- The laws of tokens: they are the longest runs of bytes that may belong to one.
+use Rattle.std.specs.Prelude.{◌≡◌, ◌⊎◌, ◌<◌, ℕ, List, [], ◌∷◌, ◌++◌, Bool, true, false, not, ◌||◌, ◌==◌, length, reverse}
 use Rattle.std.specs.List.{Contains, list_all}
-use Rattle.lisp_reader.specs.Parts.{Token', parts_of}
+use Rattle.lisp_reader.specs.Parts.{Token', begins_with_quote, parts_of}
 use Rattle.lisp_reader.specs.Scanning.{is_token_letter}
 
 -- the first of these bytes may belong to a token
@@ -24,3 +24,13 @@ pub record IsLongestRun (text : List ℕ) (place : ℕ) (letters : List ℕ) : T
 -- each token of a text is such a run
 abbrev pub TokensAreRuns : Type 0
 TokensAreRuns = (text : List ℕ) (place : ℕ) (letters : List ℕ) → Contains (parts_of text) (Token' place letters) → IsLongestRun text place letters
+
+-- a byte that begins neither a comment nor a string literal
+abbrev pub is_plain : ℕ → Bool
+is_plain b = not ((b == 59) || (b == 34))
+
+-- in a text without such bytes each such run is a token, or it is the `#` of a `#'`
+abbrev pub RunsAreTokens : Type 0
+RunsAreTokens =
+    (text : List ℕ) (place : ℕ) (letters : List ℕ) → list_all is_plain text ≡ true → (run : IsLongestRun text place letters)
+    → Contains (parts_of text) (Token' place letters) ⊎ ((letters ≡ 35 ∷ []) × (begins_with_quote run.after ≡ true))

@@ -2,7 +2,7 @@ ghost use Rattle.std.specs.Prelude.{◌≡◌, IfOk};
 ghost use Rattle.std.specs.Result.{IfErr};
 ghost use Rattle.lisp_reader.specs.Reading.{IsRefusal, NeverBoth, OneReading, OneRefusal, ReadOrRefused, Reads};
 ghost use Rattle.lisp_reader.specs.Tables.{tables_of};
-ghost use Rattle.lisp_reader.specs.Tokens.{TokensAreRuns};
+ghost use Rattle.lisp_reader.specs.Tokens.{RunsAreTokens, TokensAreRuns};
 
 use crate::build::nodes_of;
 use crate::gather::gather;
@@ -41,7 +41,7 @@ pub fn read_program(
     Ok(data)
 }
 
-/// A text has at most one reading. There is nothing to run: the clause is the law, as it is in the four functions below.
+/// A text has at most one reading. There is nothing to run: the clause is the law, as it is in the five functions below.
 pub fn one_reading()
     ensures { OneReading }
 {}
@@ -64,4 +64,9 @@ pub fn one_refusal()
 /// Each token of a text is a longest run of bytes that may belong to a token.
 pub fn tokens_are_runs()
     ensures { TokensAreRuns }
+{}
+
+/// In a text without comments and string literals each longest run of such bytes is a token, or it is the `#` of a `#'`.
+pub fn runs_are_tokens()
+    ensures { RunsAreTokens }
 {}

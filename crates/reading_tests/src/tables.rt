@@ -119,7 +119,7 @@ impl Tables {
     /// Adds what a node says to a text. A list stays open.
     fn print_node(&self, printed: &mut String, node: &DatumNode) -> Result<(), AllocError> {
         match node.kind {
-            DatumKind::List(_) => printed.push('('),
+            DatumKind::List { .. } => printed.push('('),
             DatumKind::Int(number) => write!(printed, "{number}"),
             DatumKind::Time(Micros(micros)) => write!(printed, "{micros}u"),
             DatumKind::Symbol(id) => {
@@ -170,8 +170,8 @@ fn lists_ended(open: &mut Vec<u32>, node: &DatumNode) -> Result<usize, AllocErro
     if let Some(count) = open.last_mut() {
         *count = u32::saturating_sub(*count, 1);
     }
-    if let DatumKind::List(count) = node.kind {
-        open.push(count)?;
+    if let DatumKind::List { items, .. } = node.kind {
+        open.push(items)?;
     }
     let ended = open.iter().rev().take_while(|count| **count == 0).count();
     open.truncate(open.len().saturating_sub(ended));
@@ -187,7 +187,7 @@ fn count(alloc: Global, data: &[Datum]) -> Result<String, AllocError> {
     format!(in alloc; "{count}")
 }
 
-/// The nodes of data with their numbers, `'a` as `List(2)@0 Symbol(SymbolId(5))@0 Symbol(SymbolId(6))@1`.
+/// The nodes of data with their numbers, `'a` as `List { items: 2, nodes: 2 }@0 Symbol(SymbolId(5))@0 Symbol(SymbolId(6))@1`.
 fn kinds(alloc: Global, data: &[Datum]) -> Result<String, AllocError> {
     let mut printed = String::new(alloc);
     for datum in data {

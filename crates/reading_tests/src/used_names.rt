@@ -63,7 +63,7 @@ fn nodes_have_the_numbers_of_the_first_use(rt: HostRuntime) -> Result<(), Fail> 
         &rt,
         rt.alloc(),
         r#"cases: 2
-(foo 'bar :k t #'Foo) => List(5)@0 Symbol(SymbolId(5))@1 List(2)@5 Symbol(SymbolId(6))@5 Symbol(SymbolId(7))@6 Symbol(SymbolId(8))@10 Symbol(SymbolId(1))@13 List(2)@15 Symbol(SymbolId(9))@15 Symbol(SymbolId(5))@17 FOO QUOTE BAR :K FUNCTION
+(foo 'bar :k t #'Foo) => List { items: 5, nodes: 9 }@0 Symbol(SymbolId(5))@1 List { items: 2, nodes: 2 }@5 Symbol(SymbolId(6))@5 Symbol(SymbolId(7))@6 Symbol(SymbolId(8))@10 Symbol(SymbolId(1))@13 List { items: 2, nodes: 2 }@15 Symbol(SymbolId(9))@15 Symbol(SymbolId(5))@17 FOO QUOTE BAR :K FUNCTION
 "s" "t" "s" => Text(StringId(0))@0 Text(StringId(1))@4 Text(StringId(0))@8 "s" "t"
 "#,
         Told::Kinds,

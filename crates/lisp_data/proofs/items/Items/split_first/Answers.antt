@@ -8,7 +8,7 @@ pub returns-then-self-eq0-clause-none : goal.returns-then-self-eq0-clause-none
 returns-then-self-eq0-clause-none c = sym c.self.view_is ∙ no_items _ (sym c.if-self-eq0.true ∙ c.self.invariant.many)
 
 pub invariant_of-first : goal.invariant_of-first
-invariant_of-first c = first_items _ _ _ _ _ c.self.invariant c.end_of-end.ensures c.in-List.is
+invariant_of-first c = first_items _ _ _ _ _ _ c.self.invariant c.end_of-end.ensures c.in-List.is
 
 pub invariant_of-others : goal.invariant_of-others
 invariant_of-others c = other_items _ _ _ c.self.invariant c.end_of-end.ensures
@@ -16,7 +16,7 @@ invariant_of-others c = other_items _ _ _ c.self.invariant c.end_of-end.ensures
 pub returns-clause-some : goal.returns-clause-some
 returns-clause-some c =
     sym c.self.view_is ∙ elim c.match-node-offset0.branch [
-      | in-List w ↦ split_list _ _ _ _ _ w.first-is c.end_of-end.ensures w.in-List.is
+      | in-List w ↦ split_list _ _ _ _ _ _ w.first-is c.end_of-end.ensures w.in-List.is
       | in-Int w ↦
           let fits : SFits w64 w.in-Int.number = search rules in
           let first = simp to_z-of_z at w.first-is in
