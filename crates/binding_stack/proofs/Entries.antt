@@ -3,7 +3,7 @@ use Rattle.std.proofs.Common.{◌≡◌, ◌≢◌, ℕ, zero, suc, ◌+◌, ◌
 use Rattle.std.proofs.lemmas.Bool.Decides.{nat_tests}
 use Rattle.binding_stack.specs.declared.bindings.Entry.{Entry}
 use Rattle.binding_stack.specs.Stack.{Bound, with_binding, word_of, with_word, kept}
-use Rattle.binding_stack.specs.Entries.{stacked, NoneFrom}
+use Rattle.binding_stack.specs.inside.Entries.{stacked, NoneFrom}
 
 -- one more entry is one more binding
 

@@ -1,4 +1,4 @@
 pub mod Stack
 pub mod Calls
-pub mod Entries
+pub mod inside
 pub use Rattle.environment_semantics.specs.Environment

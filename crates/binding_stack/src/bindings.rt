@@ -1,6 +1,6 @@
 ghost use Rattle.std.specs.Prelude.{◌≡◌, ◌↔◌, ◌<◌, ◌≤◌, [], length, IfOk, OnOk, OnErr, IsOk, IsSome, IsTrue, IsFalse};
 ghost use Rattle.binding_stack.specs.Stack.{word_of, with_word, with_binding, kept};
-ghost use Rattle.binding_stack.specs.Entries.{IsLast};
+ghost use Rattle.binding_stack.specs.inside.Entries.{IsLast};
 
 use lisp_base::id::SymbolId;
 use lisp_base::memory::Memory;
@@ -34,7 +34,7 @@ impl Model for BindingStack {
     ghost Value = { List Bound };
 
     ghost use Rattle.std.specs.Prelude.{[], length, ◌≤◌, vec_capacity};
-    ghost use Rattle.binding_stack.specs.Entries.{stacked};
+    ghost use Rattle.binding_stack.specs.inside.Entries.{stacked};
     ghost use Rattle.binding_stack.specs.declared.bindings.TheConstants.{BINDINGS};
 
     ghost view = { λ s. stacked [] s.entries.items };

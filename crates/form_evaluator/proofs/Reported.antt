@@ -10,8 +10,8 @@ use Rattle.run_semantics.specs.Replay.{Configuration, all_closed}
 use Rattle.run_semantics.specs.Report.{word_for, open_forms, phase_shown, thread_lines, status_of, report_of}
 use Rattle.run_semantics.specs.Run.{RunsAs}
 use Rattle.form_evaluator.specs.declared.run.Run.{Run}
-use Rattle.form_evaluator.specs.Evaluator.{Stands, shown_frame}
-use Rattle.form_evaluator.specs.Running.{Stops, shown_forms}
+use Rattle.form_evaluator.specs.inside.Evaluator.{Stands, shown_frame}
+use Rattle.form_evaluator.specs.inside.Running.{Stops, shown_forms}
 use Rattle.form_evaluator.specs.declared.evaluator.Evaluator.{Evaluator}
 use Rattle.form_evaluator.proofs.Turned.{stands-points}
 

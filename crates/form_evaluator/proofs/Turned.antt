@@ -28,12 +28,12 @@ use Rattle.run_semantics.specs.Replay.{Configuration, IsLegalBy, AreLegal, MayDo
 use Rattle.form_evaluator.specs.declared.evaluator.Evaluator.{Evaluator}
 use Rattle.form_evaluator.specs.declared.run.Run.{Run}
 use Rattle.run_semantics.specs.Over.{goes_on}
-use Rattle.plain_program.specs.Steps.{steps_of}
+use Rattle.plain_program.specs.inside.Steps.{steps_of}
 use Rattle.world_semantics.specs.declared.global.Global.{Global}
 use Rattle.world_semantics.specs.World.{unbound_all}
-use Rattle.form_evaluator.specs.Evaluator.{Stands}
+use Rattle.form_evaluator.specs.inside.Evaluator.{Stands}
 use Rattle.form_evaluator.specs.declared.evaluator.Doing.TheVariants.{Running}
-use Rattle.form_evaluator.specs.Running.{Ran, Stops, AsksFor, phase_by, globals_by, reply_by}
+use Rattle.form_evaluator.specs.inside.Running.{Ran, Stops, AsksFor, phase_by, globals_by, reply_by}
 
 -- a local point is one point
 acted-points : (r : Result (List Node) Class) (after : Points) (s : ThreadState) → (acted r after s).points ≡ s.points

@@ -4,7 +4,7 @@ use Rattle.std.proofs.lemmas.Bool.Decides.{nat_tests}
 use Rattle.lisp_base.specs.declared.value.Node.{Node}
 use Rattle.world_semantics.specs.declared.global.Global.{Global}
 use Rattle.world_semantics.specs.World.{global_of, with_global}
-use Rattle.form_evaluator.specs.Globals.{NoneBefore, IsFirst}
+use Rattle.form_evaluator.specs.inside.Globals.{NoneBefore, IsFirst}
 
 same : (m n : ℕ) → m ≡ n → (m == n) ≡ true
 same m n e = grind (arith, nat_tests)

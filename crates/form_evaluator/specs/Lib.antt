@@ -1,5 +1,1 @@
-pub mod Lists
-pub mod Evaluator
-pub mod Moves
-pub mod Globals
-pub mod Running
+pub mod inside

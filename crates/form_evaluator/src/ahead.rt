@@ -1,5 +1,5 @@
 ghost use Rattle.std.specs.Prelude.{◌≡◌, List, [], drop};
-ghost use Rattle.form_evaluator.specs.Lists.{front_of};
+ghost use Rattle.form_evaluator.specs.inside.Lists.{front_of};
 
 use plain_program::steps::Step;
 use std::marker::Model;

@@ -1,7 +1,7 @@
 ghost use Rattle.std.specs.Prelude.{◌≡◌, ◌+◌, ◌^◌, ◌<◌, [], ◌∷◌, ◌++◌, ◌&&◌, nat_lt, length, unwrap_or, slice_get, OnOk, IfOk};
 ghost use Rattle.binding_stack.specs.Stack.{word_of};
-ghost use Rattle.form_evaluator.specs.Evaluator.{Stands};
-ghost use Rattle.form_evaluator.specs.Moves.{shown_after, signalled, ended_now, asked_after, read_at, written_at, bound_at, opened_in, left_frame, popped_frame, unbound_to, room_in, next_shown, asked_of, local_after, counted, question_reply_after, test_reply_after, reply_after};
+ghost use Rattle.form_evaluator.specs.inside.Evaluator.{Stands};
+ghost use Rattle.form_evaluator.specs.inside.Moves.{shown_after, signalled, ended_now, asked_after, read_at, written_at, bound_at, opened_in, left_frame, popped_frame, unbound_to, room_in, next_shown, asked_of, local_after, counted, question_reply_after, test_reply_after, reply_after};
 ghost use Rattle.lisp_base.specs.declared.condition.Class.{Class};
 ghost use Rattle.plain_program.specs.Points.{nil};
 ghost use Rattle.thread_semantics.specs.State.{ThreadState};

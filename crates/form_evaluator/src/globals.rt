@@ -1,6 +1,6 @@
 ghost use Rattle.std.specs.Prelude.{◌≡◌};
 ghost use Rattle.world_semantics.specs.World.{global_of, with_global};
-ghost use Rattle.form_evaluator.specs.Globals.{IsFirst};
+ghost use Rattle.form_evaluator.specs.inside.Globals.{IsFirst};
 
 use lisp_base::id::SymbolId;
 use lisp_base::sequence::Sequence;

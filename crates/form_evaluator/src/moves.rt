@@ -1,6 +1,6 @@
 ghost use Rattle.std.specs.Prelude.{◌≡◌, ◌+◌, ◌^◌, ◌<◌, drop, OnOk};
-ghost use Rattle.form_evaluator.specs.Evaluator.{Stands};
-ghost use Rattle.form_evaluator.specs.Moves.{asked_of, next_shown, counted, local_after, question_reply_after, read_reply_after, test_reply_after, reply_after};
+ghost use Rattle.form_evaluator.specs.inside.Evaluator.{Stands};
+ghost use Rattle.form_evaluator.specs.inside.Moves.{asked_of, next_shown, counted, local_after, question_reply_after, read_reply_after, test_reply_after, reply_after};
 ghost use Rattle.thread_semantics.specs.State.{ThreadState};
 ghost use Rattle.thread_semantics.specs.Step.{next_of, local_step_of, after_reply};
 

@@ -5,8 +5,8 @@ ghost use Rattle.run_semantics.specs.Run.{RunsAs};
 ghost use Rattle.run_semantics.specs.Report.{unless_out, status_of, phase_shown};
 ghost use Rattle.world_semantics.specs.World.{unbound_all};
 ghost use Rattle.thread_semantics.specs.State.{ThreadState};
-ghost use Rattle.form_evaluator.specs.Evaluator.{Stands};
-ghost use Rattle.form_evaluator.specs.Running.{Ran, Stops, Goes, AsksFor, phase_by, globals_by, reply_by, shown_forms};
+ghost use Rattle.form_evaluator.specs.inside.Evaluator.{Stands};
+ghost use Rattle.form_evaluator.specs.inside.Running.{Ran, Stops, Goes, AsksFor, phase_by, globals_by, reply_by, shown_forms};
 
 use crate::evaluator::{Doing, Evaluator, OpenFrame};
 use crate::globals;

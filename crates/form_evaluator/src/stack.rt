@@ -1,5 +1,5 @@
 ghost use Rattle.std.specs.Prelude.{◌≡◌, [], ◌∷◌, length, take, drop, OnOk, IfOk};
-ghost use Rattle.form_evaluator.specs.Lists.{front_of};
+ghost use Rattle.form_evaluator.specs.inside.Lists.{front_of};
 
 use lisp_base::memory::Memory;
 use std::alloc::Global;

@@ -2,7 +2,7 @@
 use Rattle.std.proofs.Common.{◌≡◌, ℕ, refl, ap, sym, ◌∙◌}
 use Rattle.lisp_data.specs.Data.{Data, NoData, Atom, Listed, behind, count_of}
 use Rattle.lisp_data.specs.declared.datum.Leaf.{Leaf}
-use Rattle.form_shapes.specs.One.{items_first}
+use Rattle.form_shapes.specs.inside.One.{items_first}
 
 -- nothing is behind all
 pub behind-all : (d : Data) → behind (count_of d) d ≡ NoData

@@ -5,7 +5,7 @@ use Rattle.form_shapes.proofs.Chosen.{first_of, other_of}
 use Rattle.form_shapes.specs.declared.levels.Level.TheVariants.{Variable}
 use Rattle.form_shapes.specs.declared.scope.Opened.{Opened}
 use Rattle.form_shapes.specs.Bindings.{opened, opened_by, received, received_by}
-use Rattle.form_shapes.specs.Contexts.{with_opened}
+use Rattle.form_shapes.specs.inside.Contexts.{with_opened}
 use Rattle.form_shapes.specs.Scopes.{Scope, deeper, has, inside}
 
 -- what holds of all scopes holds of those with these special variables

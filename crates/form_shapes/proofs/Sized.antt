@@ -2,7 +2,7 @@
 use Rattle.std.proofs.Common.{ℕ, zero, suc, ◌≤◌, List, Bool, true, false, cond, arith}
 use Rattle.lisp_data.specs.Data.{Data, NoData, Atom, Listed, behind}
 use Rattle.form_shapes.specs.Bindings.{body_of, is_declaration}
-use Rattle.form_shapes.specs.Sizes.{size_of}
+use Rattle.form_shapes.specs.inside.Sizes.{size_of}
 
 -- what is behind some
 pub size_of_behind : (n : ℕ) (d : Data) → size_of (behind n d) ≤ size_of d

@@ -6,7 +6,5 @@ pub mod Bindings
 pub mod Keywords
 pub mod Clauses
 pub mod Shapes
-pub mod Contexts
 pub mod Places
-pub mod One
-pub mod Sizes
+pub mod inside

@@ -1,5 +1,6 @@
 -- What names mean.
 use Rattle.std.specs.Prelude.{ℕ, List, Bool, false, ◌||◌, ◌==◌, Option, Some, None, if◌then◌else◌, get_or, codes}
+use Rattle.lisp_base.specs.Bytes.{colon}
 use Rattle.std.specs.Str.{bytes_eq}
 use Rattle.lisp_base.specs.declared.condition.Class.{Class}
 use Rattle.lisp_base.specs.declared.condition.Class.TheVariants as c
@@ -219,7 +220,7 @@ class_named name =
 
 -- a symbol that stands for itself: NIL, T or a keyword
 abbrev pub is_constant : List ℕ → Bool
-is_constant name = bytes_eq name (codes "NIL") || bytes_eq name (codes "T") || (get_or name 0 0 == 58)
+is_constant name = bytes_eq name (codes "NIL") || bytes_eq name (codes "T") || (get_or name 0 0 == colon)
 
 -- the present thread
 abbrev pub is_current_thread : List ℕ → Bool

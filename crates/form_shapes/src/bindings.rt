@@ -3,12 +3,12 @@ ghost use Rattle.std.specs.List.{list_all};
 ghost use Rattle.lisp_data.specs.Data.{NoData};
 ghost use Rattle.lisp_data.specs.First.{with_first};
 ghost use Rattle.form_shapes.specs.Bindings;
-ghost use Rattle.form_shapes.specs.Contexts.{is_told, scope_in, with_opened};
-ghost use Rattle.form_shapes.specs.One.{bound_by, is_declared, items_first, let_variables, symbol_by};
+ghost use Rattle.form_shapes.specs.inside.Contexts.{is_told, scope_in, with_opened};
+ghost use Rattle.form_shapes.specs.inside.One.{bound_by, is_declared, items_first, let_variables, symbol_by};
 ghost use Rattle.form_shapes.specs.Places.{parameters_in, scope_within};
 ghost use Rattle.form_shapes.specs.Scopes;
 ghost use Rattle.form_shapes.specs.Scopes.{Scope};
-ghost use Rattle.form_shapes.specs.Sizes.{size_of};
+ghost use Rattle.form_shapes.specs.inside.Sizes.{size_of};
 
 use crate::levels::{Level, Levels};
 use crate::refusal::{BAD_FORM, DEFINED_TWICE, TOO_MANY};

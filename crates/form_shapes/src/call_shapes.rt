@@ -1,5 +1,5 @@
 ghost use Rattle.std.specs.Prelude.{◌≡◌};
-ghost use Rattle.form_shapes.specs.Contexts.{scope_in};
+ghost use Rattle.form_shapes.specs.inside.Contexts.{scope_in};
 ghost use Rattle.form_shapes.specs.Shapes;
 
 use crate::bindings::MOST;

@@ -1,6 +1,6 @@
 ghost use Rattle.std.specs.Prelude.{◌≡◌};
 ghost use Rattle.form_shapes.specs.Clauses;
-ghost use Rattle.form_shapes.specs.One.{holds_clause, holds_test, holds_variable};
+ghost use Rattle.form_shapes.specs.inside.One.{holds_clause, holds_test, holds_variable};
 
 use crate::class_names::class_named;
 use crate::scope::{as_variable, first_symbol, name_of};

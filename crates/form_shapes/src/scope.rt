@@ -1,6 +1,6 @@
 ghost use Rattle.std.specs.Prelude.{◌≡◌, IfOk, OnOk};
 ghost use Rattle.form_shapes.specs.Bindings;
-ghost use Rattle.form_shapes.specs.Contexts.{scope_at, scope_in, with_opened};
+ghost use Rattle.form_shapes.specs.inside.Contexts.{scope_at, scope_in, with_opened};
 ghost use Rattle.form_shapes.specs.Scopes;
 ghost use Rattle.form_shapes.specs.Scopes.{Scope};
 

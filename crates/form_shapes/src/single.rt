@@ -1,9 +1,9 @@
 ghost use Rattle.std.specs.Prelude.{◌≡◌, ◌≤◌};
 ghost use Rattle.lisp_data.specs.Data.{behind};
-ghost use Rattle.form_shapes.specs.Contexts.{scope_in};
+ghost use Rattle.form_shapes.specs.inside.Contexts.{scope_in};
 ghost use Rattle.form_shapes.specs.Scopes.{target_in};
-ghost use Rattle.form_shapes.specs.One;
-ghost use Rattle.form_shapes.specs.Sizes.{size_of};
+ghost use Rattle.form_shapes.specs.inside.One;
+ghost use Rattle.form_shapes.specs.inside.Sizes.{size_of};
 
 use crate::scope::{Context, Target, leaf_symbol, target_of};
 use lisp_base::id::{Place, SymbolId};

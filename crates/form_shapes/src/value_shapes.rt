@@ -1,6 +1,6 @@
 ghost use Rattle.std.specs.Prelude.{◌≡◌};
-ghost use Rattle.form_shapes.specs.Contexts.{scope_in};
-ghost use Rattle.form_shapes.specs.One.{placed_symbol, quoted_first};
+ghost use Rattle.form_shapes.specs.inside.Contexts.{scope_in};
+ghost use Rattle.form_shapes.specs.inside.One.{placed_symbol, quoted_first};
 ghost use Rattle.form_shapes.specs.Shapes;
 
 use crate::expanded::Expanded;

@@ -1,7 +1,7 @@
 ghost use Rattle.std.specs.Prelude.{◌≡◌, IfOk};
 ghost use Rattle.form_shapes.specs.Bindings.{opened as opened_of, received_by};
-ghost use Rattle.form_shapes.specs.Contexts.{scope_at, with_opened};
-ghost use Rattle.form_shapes.specs.One.{symbol_by as symbol_of};
+ghost use Rattle.form_shapes.specs.inside.Contexts.{scope_at, with_opened};
+ghost use Rattle.form_shapes.specs.inside.One.{symbol_by as symbol_of};
 ghost use Rattle.form_shapes.specs.Places.{placed_of as placed_as, scope_within};
 ghost use Rattle.form_shapes.specs.Scopes.{inside, leaf_form as leaf_form_of, target_in};
 ghost use Rattle.form_shapes.specs.Shapes.{shape_of};

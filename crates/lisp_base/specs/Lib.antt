@@ -1,3 +1,4 @@
+pub mod Bytes
 pub mod Value
 pub mod Forest
 pub mod Classes

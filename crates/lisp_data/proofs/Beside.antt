@@ -8,8 +8,8 @@ use Rattle.lisp_data.specs.declared.items.First.{First}
 use Rattle.lisp_data.specs.declared.items.First.TheVariants.{Leaf as FirstLeaf, List as FirstList}
 use Rattle.lisp_data.specs.First.{with_first}
 use Rattle.lisp_data.specs.Data.{Data, NoData, Atom, Listed, AreItems, begun, behind, count_of, data_of, front, leaf_kind, node_at, written}
-use Rattle.lisp_data.specs.DataCode.{data_back, leaf_begun}
-use Rattle.lisp_data.specs.Splitting.{IsEnd}
+use Rattle.lisp_data.specs.inside.DataCode.{data_back, leaf_begun}
+use Rattle.lisp_data.specs.inside.Splitting.{IsEnd}
 use Rattle.lisp_data.proofs.Ends.{count-behind}
 
 -- one datum by itself

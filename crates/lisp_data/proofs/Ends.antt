@@ -6,8 +6,8 @@ use Rattle.lisp_data.specs.declared.datum.DatumKind.{DatumKind}
 use Rattle.lisp_data.specs.declared.datum.DatumKind.TheVariants.{List as AList, Int as AnInt, Symbol as ASymbol, Text as AText, Time as ATime}
 use Rattle.lisp_data.specs.declared.datum.DatumNode.{DatumNode}
 use Rattle.lisp_data.specs.Data.{Data, NoData, Atom, Listed, AreWhole, IsDatum, begun, behind, count_of, data_of, each, front, node_at, nodes_under, written}
-use Rattle.lisp_data.specs.DataCode.{data_back}
-use Rattle.lisp_data.specs.Splitting.{IsEnd}
+use Rattle.lisp_data.specs.inside.DataCode.{data_back}
+use Rattle.lisp_data.specs.inside.Splitting.{IsEnd}
 
 -- how many are left behind some
 pub count-behind : (n : ℕ) (d : Data) → count_of (behind n d) ≡ count_of d - n

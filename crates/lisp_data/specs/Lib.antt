@@ -1,4 +1,3 @@
 pub mod Data
-pub mod DataCode
-pub mod Splitting
 pub mod First
+pub mod inside

@@ -48,7 +48,7 @@ pub struct Datum {
 
 impl Model for Datum {
     ghost use Rattle.lisp_data.specs.Data.{Data, IsDatum, data_of};
-    ghost use Rattle.lisp_data.specs.DataCode.{data_code};
+    ghost use Rattle.lisp_data.specs.inside.DataCode.{data_code};
 
     ghost Value = { Data };
 

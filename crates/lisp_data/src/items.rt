@@ -16,7 +16,7 @@ pub struct Items<'a> {
 
 impl<'a> Model for Items<'a> {
     ghost use Rattle.lisp_data.specs.Data.{AreItems, Data, data_of};
-    ghost use Rattle.lisp_data.specs.DataCode.{data_code};
+    ghost use Rattle.lisp_data.specs.inside.DataCode.{data_code};
 
     ghost Value = { Data };
 

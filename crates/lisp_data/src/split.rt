@@ -1,6 +1,6 @@
 ghost use Rattle.std.specs.Prelude.{◌≡◌, ◌<◌, ◌≤◌, ◌^◌, ◌-◌, drop, take, length, IfOk};
 ghost use Rattle.lisp_data.specs.Data.{AreWhole, behind, data_of, each, front, written};
-ghost use Rattle.lisp_data.specs.Splitting.{IsEnd};
+ghost use Rattle.lisp_data.specs.inside.Splitting.{IsEnd};
 
 use crate::datum::{Datum, DatumNode};
 use lisp_base::memory::Memory;

@@ -9,8 +9,8 @@ use Rattle.form_shapes.specs.declared.expanded.ExpandedNode.{ExpandedNode}
 use Rattle.form_shapes.specs.declared.levels.Level.TheVariants.{Variable}
 use Rattle.form_shapes.specs.Bindings.{opened_by}
 use Rattle.form_shapes.specs.Scopes.{Scope, has, inside}
-use Rattle.lisp_forms.specs.Flat.{node}
-use Rattle.lisp_forms.specs.Written.{bind_nodes, forms_under, number_behind}
+use Rattle.lisp_forms.specs.inside.Flat.{node}
+use Rattle.lisp_forms.specs.inside.Written.{bind_nodes, forms_under, number_behind}
 
 -- the kind of a binding, by the special variables and the number of a lexical one
 abbrev pub kind_by : List ℕ → ℕ → ℕ → ℕ → CoreKind

@@ -16,10 +16,10 @@ use Rattle.form_shapes.specs.declared.levels.Level.TheVariants.{Variable}
 use Rattle.form_shapes.specs.Bindings.{body_of, received_by}
 use Rattle.form_shapes.specs.Clauses.{class_of, clause_variable}
 use Rattle.form_shapes.specs.Keywords.{parts_of}
-use Rattle.form_shapes.specs.One.{is_list, items_first, symbol_by}
+use Rattle.form_shapes.specs.inside.One.{is_list, items_first, symbol_by}
 use Rattle.form_shapes.specs.Scopes.{Scope, deeper, has, inside}
 use Rattle.lisp_forms.specs.Expansion.{body_in, by_roles, clause_in, forms_in, in_clause, or_condition, within_first}
-use Rattle.lisp_forms.specs.Flat.{flat, flat_one, node}
+use Rattle.lisp_forms.specs.inside.Flat.{flat, flat_one, node}
 use Rattle.lisp_forms.specs.Rows.{clause_form, local}
 use Rattle.lisp_forms.specs.Trees.{Expansion, Single, both, form, in_front, only, three}
 use Rattle.lisp_forms.proofs.Parts.{body-forms, count-forms, count-joined, count-roles, flat-joined, last_step, two_steps, within-items}

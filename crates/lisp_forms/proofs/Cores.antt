@@ -9,11 +9,11 @@ use Rattle.lisp_program.specs.declared.form.FormNode.{FormNode}
 use Rattle.form_shapes.specs.declared.expanded.Expanded.{Expanded}
 use Rattle.form_shapes.specs.declared.expanded.Expanded.TheVariants.{Form, Lambda, Defun, Refused, RefusedFunction}
 use Rattle.form_shapes.specs.declared.expanded.ExpandedNode.{ExpandedNode}
-use Rattle.lisp_forms.specs.Flat.{flat, node}
+use Rattle.lisp_forms.specs.inside.Flat.{flat, node}
 use Rattle.lisp_forms.specs.Program.{core_forms, core_kind, functions_of, with_function}
 use Rattle.lisp_forms.specs.Blocks.{is_function}
 use Rattle.lisp_forms.specs.Trees.{Expansion}
-use Rattle.lisp_forms.specs.Written.{core_here, core_node, cores_in, function_here, is_done, left_behind, skipped_behind}
+use Rattle.lisp_forms.specs.inside.Written.{core_here, core_node, cores_in, function_here, is_done, left_behind, skipped_behind}
 
 -- the first so many of two forests are the first
 front-joined : {K : Type 0} (f g : Forest K) → front (count_of f) (joined f g) ≡ f

@@ -9,7 +9,7 @@ use Rattle.form_shapes.specs.declared.expanded.ExpandedNode.{ExpandedNode}
 use Rattle.form_shapes.specs.declared.levels.Numbered.{Numbered}
 use Rattle.form_shapes.specs.Scopes.{Scope}
 use Rattle.lisp_forms.specs.declared.expander.Refusal.{Refusal}
-use Rattle.lisp_forms.specs.Flat.{flat}
+use Rattle.lisp_forms.specs.inside.Flat.{flat}
 use Rattle.lisp_forms.specs.Program.{Expands, Known, core_forms, expansion_of, functions_from, functions_of, known_behind, nothing_known, program_refusal, top_forms, variables_from}
 use Rattle.lisp_forms.specs.Trees.{Expansion}
 use Rattle.lisp_forms.proofs.Cores.{forms_back}

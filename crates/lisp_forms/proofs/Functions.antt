@@ -6,14 +6,14 @@ use Rattle.form_shapes.specs.declared.expanded.Expanded.TheVariants.{Lambda}
 use Rattle.form_shapes.specs.declared.expanded.ExpandedNode.{ExpandedNode}
 use Rattle.form_shapes.specs.declared.scope.Opened.{Opened}
 use Rattle.form_shapes.specs.Bindings.{function_body_of}
-use Rattle.form_shapes.specs.Contexts.{with_opened}
+use Rattle.form_shapes.specs.inside.Contexts.{with_opened}
 use Rattle.form_shapes.specs.Places.{parameters_in, scope_within}
 use Rattle.form_shapes.specs.Scopes.{Scope}
 use Rattle.lisp_forms.specs.Expansion.{forms_in, function_body_in}
-use Rattle.lisp_forms.specs.Flat.{flat, flat_one, node}
+use Rattle.lisp_forms.specs.inside.Flat.{flat, flat_one, node}
 use Rattle.lisp_forms.specs.Rows.{lambda_form, specials_bound}
 use Rattle.lisp_forms.specs.Trees.{Expansion}
-use Rattle.lisp_forms.specs.Written.{special_nodes, special_parts}
+use Rattle.lisp_forms.specs.inside.Written.{special_nodes, special_parts}
 use Rattle.lisp_forms.proofs.Lambdas.{count-bound, flat-bound, function-forms, within-depth}
 use Rattle.lisp_forms.proofs.Parts.{count-forms, last_step, two_steps}
 

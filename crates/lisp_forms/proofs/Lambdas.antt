@@ -13,10 +13,10 @@ use Rattle.form_shapes.specs.Bindings.{body_of, function_body_of, is_declaration
 use Rattle.form_shapes.specs.Places.{scope_within}
 use Rattle.form_shapes.specs.Scopes.{Scope, deeper, has, inside}
 use Rattle.lisp_forms.specs.Expansion.{body_in, forms_in, function_body_in, is_none}
-use Rattle.lisp_forms.specs.Flat.{flat, flat_one, node}
+use Rattle.lisp_forms.specs.inside.Flat.{flat, flat_one, node}
 use Rattle.lisp_forms.specs.Rows.{local, specials_bound}
 use Rattle.lisp_forms.specs.Trees.{Expansion, Single, both, form, only}
-use Rattle.lisp_forms.specs.Written.{special_nodes, special_parts}
+use Rattle.lisp_forms.specs.inside.Written.{special_nodes, special_parts}
 use Rattle.lisp_forms.proofs.Parts.{body-forms}
 
 -- the forms of these or those

@@ -7,14 +7,14 @@ use Rattle.form_shapes.specs.declared.expanded.Expanded.TheVariants.{Form}
 use Rattle.form_shapes.specs.declared.expanded.ExpandedNode.{ExpandedNode}
 use Rattle.form_shapes.specs.declared.scope.Opened.{Opened}
 use Rattle.form_shapes.specs.Bindings.{and_others, body_of, bound_in, bound_in_list, opened, opened_by, or_none}
-use Rattle.form_shapes.specs.Contexts.{with_opened}
-use Rattle.form_shapes.specs.One.{items_first, let_variables}
+use Rattle.form_shapes.specs.inside.Contexts.{with_opened}
+use Rattle.form_shapes.specs.inside.One.{items_first, let_variables}
 use Rattle.form_shapes.specs.Scopes.{Scope, leaf_symbol}
 use Rattle.lisp_forms.specs.Expansion.{body_in, forms_in, turn_first, values_first, values_in}
-use Rattle.lisp_forms.specs.Flat.{flat, flat_one, node}
+use Rattle.lisp_forms.specs.inside.Flat.{flat, flat_one, node}
 use Rattle.lisp_forms.specs.Rows.{bind_kind, binds, let_of, let_star_of}
 use Rattle.lisp_forms.specs.Trees.{Expansion, Single, progn_form}
-use Rattle.lisp_forms.specs.Written.{bind_nodes}
+use Rattle.lisp_forms.specs.inside.Written.{bind_nodes}
 use Rattle.lisp_forms.proofs.Parts.{body-forms, count-forms, count-joined, flat-joined, last_step, two_steps}
 
 -- a variable in front of others is at most one more

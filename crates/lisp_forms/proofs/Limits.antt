@@ -6,11 +6,11 @@ use Rattle.lisp_base.specs.Forest.{NoTrees, Tree}
 use Rattle.form_shapes.proofs.Chosen.{other_of}
 use Rattle.form_shapes.specs.declared.expanded.ExpandedNode.{ExpandedNode}
 use Rattle.lisp_forms.specs.declared.expander.Refusal.{Refusal}
-use Rattle.lisp_forms.specs.Flat.{flat}
+use Rattle.lisp_forms.specs.inside.Flat.{flat}
 use Rattle.lisp_forms.specs.Program.{before, earlier, first_refusal, function_places, most_functions, past_limit, refusal_of}
 use Rattle.lisp_forms.specs.Blocks.{is_function}
 use Rattle.lisp_forms.specs.Trees.{Expansion}
-use Rattle.lisp_forms.specs.Written.{one_before, place_here}
+use Rattle.lisp_forms.specs.inside.Written.{one_before, place_here}
 
 -- the first refusal of these nodes and that one
 abbrev pub first_in : Option Refusal → List ExpandedNode → Option Refusal

@@ -11,16 +11,16 @@ use Rattle.form_shapes.specs.declared.keywords.Roles.TheVariants.{From, Values}
 use Rattle.form_shapes.specs.declared.levels.Numbered.{Numbered}
 use Rattle.form_shapes.specs.declared.scope.Base.{Base}
 use Rattle.form_shapes.specs.Bindings.{body_of}
-use Rattle.form_shapes.specs.Contexts.{scope_at}
+use Rattle.form_shapes.specs.inside.Contexts.{scope_at}
 use Rattle.form_shapes.specs.Keywords.{parts_of}
-use Rattle.form_shapes.specs.One.{items_first}
+use Rattle.form_shapes.specs.inside.One.{items_first}
 use Rattle.form_shapes.specs.Scopes.{Scope, deeper}
 use Rattle.lisp_forms.specs.declared.locks.Lock.{Lock}
 use Rattle.lisp_forms.specs.Expansion.{body_in, by_roles, forms_in, within_first}
-use Rattle.lisp_forms.specs.Flat.{flat, flat_one, node}
+use Rattle.lisp_forms.specs.inside.Flat.{flat, flat_one, node}
 use Rattle.lisp_forms.specs.Rows.{either, grabbing, held_form, if_form, local, local_form, locked, release_form, timeout_of, timer_form, in_lock}
 use Rattle.lisp_forms.specs.Trees.{Expansion, Single, both, first, form, in_front, nil_form, only, others, progn_form}
-use Rattle.lisp_forms.specs.Written.{either_nodes, grab_nodes, lock_of, locked_nodes, region_nodes}
+use Rattle.lisp_forms.specs.inside.Written.{either_nodes, grab_nodes, lock_of, locked_nodes, region_nodes}
 use Rattle.lisp_forms.proofs.Bodied.{body-is, one-of, three-of, three_steps, two-of}
 use Rattle.lisp_forms.proofs.Parts.{count-forms, count-roles, last_step, others-forms, roles-from_0, two_steps, within-items}
 

@@ -12,15 +12,15 @@ use Rattle.form_shapes.specs.declared.keywords.Roles.TheVariants.{From}
 use Rattle.form_shapes.specs.declared.levels.Level.TheVariants.{Block}
 use Rattle.form_shapes.specs.declared.scope.Opened.{Opened}
 use Rattle.form_shapes.specs.Bindings.{body_of, opened_by}
-use Rattle.form_shapes.specs.Contexts.{with_opened}
-use Rattle.form_shapes.specs.One.{items_first}
+use Rattle.form_shapes.specs.inside.Contexts.{with_opened}
+use Rattle.form_shapes.specs.inside.One.{items_first}
 use Rattle.form_shapes.specs.Scopes.{Scope, inside}
 use Rattle.lisp_forms.specs.Expansion.{body_in, forms_in, within_first}
-use Rattle.lisp_forms.specs.Flat.{flat, flat_one, node}
+use Rattle.lisp_forms.specs.inside.Flat.{flat, flat_one, node}
 use Rattle.lisp_forms.specs.Blocks.{blocked, lowered, returns_to}
 use Rattle.lisp_forms.specs.Rows.{bind_kind, more_form, number_form, result_form, step_form, true_form, turn_form, turns_form, in_dotimes, in_turn, result_of}
 use Rattle.lisp_forms.specs.Trees.{Expansion, Single, both, first, form, in_front, only, second, three}
-use Rattle.lisp_forms.specs.Written.{turn_head}
+use Rattle.lisp_forms.specs.inside.Written.{turn_head}
 use Rattle.lisp_forms.proofs.Parts.{body-forms, count-forms, last_step, others-forms, roles-from_0, two_steps, within-items}
 
 -- one form in its implicit block is one form

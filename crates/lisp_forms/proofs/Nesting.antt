@@ -15,17 +15,17 @@ use Rattle.form_shapes.specs.declared.expanded.ExpandedNode.{ExpandedNode}
 use Rattle.form_shapes.specs.declared.keywords.Roles.TheVariants.{From}
 use Rattle.form_shapes.specs.declared.scope.Opened.{Opened}
 use Rattle.form_shapes.specs.Bindings.{and_others, body_of, bound_in, bound_in_list, opened, opened_by, or_none}
-use Rattle.form_shapes.specs.Contexts.{with_opened}
-use Rattle.form_shapes.specs.One.{bound_by, items_first, let_variables}
+use Rattle.form_shapes.specs.inside.Contexts.{with_opened}
+use Rattle.form_shapes.specs.inside.One.{bound_by, items_first, let_variables}
 use Rattle.form_shapes.specs.Scopes.{Scope, leaf_symbol}
-use Rattle.form_shapes.specs.Sizes.{size_of}
+use Rattle.form_shapes.specs.inside.Sizes.{size_of}
 use Rattle.form_shapes.proofs.Openings.{next_of}
 use Rattle.lisp_forms.specs.Expansion.{behind_variable, body_in, by_roles, forms_in, turn_first, turns_in}
-use Rattle.lisp_forms.specs.Flat.{flat, flat_one, node}
-use Rattle.lisp_forms.specs.Firsts.{bound_value}
+use Rattle.lisp_forms.specs.inside.Flat.{flat, flat_one, node}
+use Rattle.lisp_forms.specs.inside.Firsts.{bound_value}
 use Rattle.lisp_forms.specs.Rows.{bind_form, bind_kind, let_star_of, nested}
 use Rattle.lisp_forms.specs.Trees.{Expansion, Single, both, first, form, in_front, nil_form, only, others}
-use Rattle.lisp_forms.specs.Written.{turn, turn_nodes, turn_parts}
+use Rattle.lisp_forms.specs.inside.Written.{turn, turn_nodes, turn_parts}
 use Rattle.lisp_forms.proofs.Letting.{body-opened}
 use Rattle.lisp_forms.proofs.Parts.{count-forms}
 

@@ -13,12 +13,12 @@ use Rattle.form_shapes.specs.declared.keywords.Roles.{Roles}
 use Rattle.form_shapes.specs.declared.keywords.Roles.TheVariants.{From}
 use Rattle.form_shapes.specs.Bindings.{body_of, is_declaration}
 use Rattle.form_shapes.specs.Keywords.{counted, parts_of, role_at, value_if}
-use Rattle.form_shapes.specs.One.{items_first}
+use Rattle.form_shapes.specs.inside.One.{items_first}
 use Rattle.form_shapes.specs.Places.{misplaced_kind}
 use Rattle.form_shapes.specs.Scopes.{Scope, leaf_form}
 use Rattle.lisp_forms.specs.Expansion.{body_in, by_roles, forms_in, leaf_single, listed, placed, with_role, within_first}
-use Rattle.lisp_forms.specs.Flat.{flat}
-use Rattle.lisp_forms.specs.Firsts.{first_form}
+use Rattle.lisp_forms.specs.inside.Flat.{flat}
+use Rattle.lisp_forms.specs.inside.Firsts.{first_form}
 use Rattle.lisp_forms.specs.Trees.{Expansion, Single, in_front, leaf, others}
 
 -- the forms of a first datum and of others

@@ -3,7 +3,7 @@ use Rattle.std.proofs.Common.{◌≡◌, ℕ, zero, suc, ◌+◌, Option, List, 
 use Rattle.lisp_base.specs.Writing.{Wrote}
 use Rattle.lisp_base.proofs.Writing.{wrote_both, wrote_same}
 use Rattle.form_shapes.specs.declared.expanded.ExpandedNode.{ExpandedNode}
-use Rattle.lisp_forms.specs.Flat.{repeated}
+use Rattle.lisp_forms.specs.inside.Flat.{repeated}
 
 -- the last of them is as good as the first
 repeated_last : (k : ℕ) (n : ExpandedNode) → repeated (suc k) n ≡ repeated k n ++ n ∷ []

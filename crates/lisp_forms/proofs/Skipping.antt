@@ -7,10 +7,10 @@ use Rattle.lisp_base.specs.Forest.{NoTrees, Tree, count_of}
 use Rattle.lisp_program.specs.declared.form.CoreKind.TheVariants.{Block}
 use Rattle.form_shapes.specs.declared.expanded.Expanded.{Expanded}
 use Rattle.form_shapes.specs.declared.expanded.ExpandedNode.{ExpandedNode}
-use Rattle.lisp_forms.specs.Flat.{flat, node}
+use Rattle.lisp_forms.specs.inside.Flat.{flat, node}
 use Rattle.lisp_forms.specs.Blocks.{is_function, is_return_to, blocked, lowered, lowered_kind, returns_to}
 use Rattle.lisp_forms.specs.Trees.{Expansion, form, only}
-use Rattle.lisp_forms.specs.Written.{leaves_here, lowered_node, skipped_behind}
+use Rattle.lisp_forms.specs.inside.Written.{leaves_here, lowered_node, skipped_behind}
 
 -- some of these leaves to the block with this number, where so many forms from here on belong to a function
 abbrev pub found_in : ℕ → ℕ → List ExpandedNode → Bool

@@ -6,8 +6,8 @@ use Rattle.lisp_program.specs.declared.form.CoreKind.TheVariants.{BindSpecial, L
 use Rattle.form_shapes.specs.declared.expanded.Expanded.TheVariants.{Form}
 use Rattle.form_shapes.specs.declared.expanded.ExpandedNode.{ExpandedNode}
 use Rattle.form_shapes.specs.Scopes.{has}
-use Rattle.lisp_forms.specs.Flat.{node}
-use Rattle.lisp_forms.specs.Written.{special_node, special_nodes, special_parts}
+use Rattle.lisp_forms.specs.inside.Flat.{node}
+use Rattle.lisp_forms.specs.inside.Written.{special_node, special_nodes, special_parts}
 
 -- three nodes, or none, in front of others
 bound-first : (t : Bool) (a b c : ExpandedNode) (rest : List ExpandedNode) → (if t then a ∷ (b ∷ (c ∷ [])) else []) ++ rest ≡ (if t then a ∷ (b ∷ (c ∷ rest)) else rest)

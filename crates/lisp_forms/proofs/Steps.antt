@@ -18,16 +18,16 @@ use Rattle.form_shapes.specs.declared.keywords.Roles.{Roles}
 use Rattle.form_shapes.specs.declared.scope.Target.{Target}
 use Rattle.form_shapes.specs.Bindings.{body_of}
 use Rattle.form_shapes.specs.Keywords.{role_at}
-use Rattle.form_shapes.specs.One.{let_variables}
+use Rattle.form_shapes.specs.inside.One.{let_variables}
 use Rattle.form_shapes.specs.Scopes.{Scope, deeper, set_kind, with_open}
 use Rattle.form_shapes.specs.Shapes.{shape_of}
-use Rattle.form_shapes.specs.Sizes.{size_of}
+use Rattle.form_shapes.specs.inside.Sizes.{size_of}
 use Rattle.lisp_forms.specs.Expansion.{body_in, by_roles, conds_in, forms_in, list_form, listed, ors_in, parts_in, with_role}
-use Rattle.lisp_forms.specs.Flat.{flat, flat_one, node, repeated}
-use Rattle.lisp_forms.specs.Firsts.{first_form, first_placed}
+use Rattle.lisp_forms.specs.inside.Flat.{flat, flat_one, node, repeated}
+use Rattle.lisp_forms.specs.inside.Firsts.{first_form, first_placed}
 use Rattle.lisp_forms.specs.Rows
 use Rattle.lisp_forms.specs.Trees.{Expansion, Single, first, form, in_front, nil_form, only, others, progn_form, both}
-use Rattle.lisp_forms.specs.Written.{and_front, clause_nodes, either_nodes}
+use Rattle.lisp_forms.specs.inside.Written.{and_front, clause_nodes, either_nodes}
 use Rattle.lisp_forms.proofs.Parts.{body-forms, count-forms, count-joined, flat-joined, forms-first, last_step, others-forms, two_steps}
 
 -- the size of a first datum with others

@@ -5,11 +5,11 @@ use Rattle.lisp_data.specs.Data.{Data, NoData, count_of as data_in}
 use Rattle.lisp_data.specs.First.{with_first}
 use Rattle.lisp_data.specs.declared.items.First.{First}
 use Rattle.lisp_data.specs.declared.items.First.TheVariants.{Leaf as LeafFirst, List as ListFirst}
-use Rattle.form_shapes.specs.One.{is_list}
+use Rattle.form_shapes.specs.inside.One.{is_list}
 use Rattle.form_shapes.specs.Scopes.{Scope}
-use Rattle.form_shapes.specs.Sizes.{size_of}
+use Rattle.form_shapes.specs.inside.Sizes.{size_of}
 use Rattle.lisp_forms.specs.Expansion.{clauses_in, pairs_in}
-use Rattle.lisp_forms.specs.Written.{one_list}
+use Rattle.lisp_forms.specs.inside.Written.{one_list}
 
 -- one in front of others is one more
 pub data_in-with_first : (first : First) (others : Data) → data_in (with_first first others) ≡ suc (data_in others)

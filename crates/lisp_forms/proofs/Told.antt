@@ -9,7 +9,7 @@ use Rattle.lisp_forms.specs.Laws.{FirstIsTold, IsRefusalIn, IsFormRefusal, IsLim
 use Rattle.lisp_forms.specs.Program.{before, comes_before, earlier, first_refusal, function_places, limit_refusal, most_functions, past_limit, program_refusal, refusal_of}
 use Rattle.lisp_forms.specs.Trees.{Expansion}
 use Rattle.lisp_forms.proofs.Limits.{before-first, not_before}
-use Rattle.lisp_forms.specs.Written.{one_before}
+use Rattle.lisp_forms.specs.inside.Written.{one_before}
 
 -- no refusal of the second comes before the first, where there is one
 abbrev AtMost : Option Refusal → Option Refusal → Type 0

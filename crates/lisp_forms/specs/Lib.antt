@@ -4,8 +4,5 @@ pub mod Parts
 pub mod Rows
 pub mod Expansion
 pub mod Program
-pub mod Known
-pub mod Firsts
-pub mod Flat
-pub mod Written
 pub mod Laws
+pub mod inside

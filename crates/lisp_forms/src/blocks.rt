@@ -1,10 +1,10 @@
 ghost use Rattle.std.specs.Prelude.{◌≡◌, ◌∷◌, [], ◌+◌, ◌^◌, ◌<◌, ℕ};
 ghost use Rattle.lisp_base.specs.Forest.{count_of};
 ghost use Rattle.lisp_base.specs.Writing.{Wrote};
-ghost use Rattle.lisp_forms.specs.Flat.{flat};
+ghost use Rattle.lisp_forms.specs.inside.Flat.{flat};
 ghost use Rattle.lisp_forms.specs.Blocks;
 ghost use Rattle.lisp_forms.specs.Trees.{Expansion};
-ghost use Rattle.lisp_forms.specs.Written.{leaves_here, lowered_node, skipped_behind as behind_node};
+ghost use Rattle.lisp_forms.specs.inside.Written.{leaves_here, lowered_node, skipped_behind as behind_node};
 
 use crate::nodes::{push_form, push_node};
 use form_shapes::expanded::{Expanded, ExpandedNode};

@@ -1,14 +1,14 @@
 ghost use Rattle.std.specs.Prelude.{◌≡◌, ℕ, ◌<◌, ◌^◌, Some};
 ghost use Rattle.lisp_base.specs.Forest.{count_of, joined};
 ghost use Rattle.lisp_base.specs.Writing.{Wrote};
-ghost use Rattle.form_shapes.specs.Contexts.{scope_at};
+ghost use Rattle.form_shapes.specs.inside.Contexts.{scope_at};
 ghost use Rattle.form_shapes.specs.Scopes.{Scope, inside as inside_of};
 ghost use Rattle.form_shapes.specs.Bindings.{received_by};
 ghost use Rattle.lisp_forms.specs.Expansion.{body_in, clause_in, clauses_behind, clauses_in, forms_in, parts_in, within_first};
-ghost use Rattle.lisp_forms.specs.Flat.{flat, flat_one};
+ghost use Rattle.lisp_forms.specs.inside.Flat.{flat, flat_one};
 ghost use Rattle.lisp_forms.specs.Rows;
 ghost use Rattle.lisp_forms.specs.Trees.{first as first_of, form, in_front};
-ghost use Rattle.lisp_forms.specs.Written.{one_list};
+ghost use Rattle.lisp_forms.specs.inside.Written.{one_list};
 
 use crate::expand::{push_all, push_by_roles, push_head};
 use crate::nodes::{push_form, push_local, push_nil};

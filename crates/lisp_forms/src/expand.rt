@@ -1,10 +1,10 @@
 ghost use Rattle.lisp_base.specs.Writing.{Wrote};
-ghost use Rattle.form_shapes.specs.Contexts.{scope_at};
-ghost use Rattle.form_shapes.specs.One.{let_variables};
+ghost use Rattle.form_shapes.specs.inside.Contexts.{scope_at};
+ghost use Rattle.form_shapes.specs.inside.One.{let_variables};
 ghost use Rattle.form_shapes.specs.Places.{parameters_in as parameters_of, scope_within};
 ghost use Rattle.lisp_forms.specs.Expansion.{by_roles, forms_in, function_body_in, list_form, listed, parts_in, placed as placed_in, placed_first};
-ghost use Rattle.lisp_forms.specs.Flat.{flat, flat_one};
-ghost use Rattle.lisp_forms.specs.Firsts.{first_form, first_placed};
+ghost use Rattle.lisp_forms.specs.inside.Flat.{flat, flat_one};
+ghost use Rattle.lisp_forms.specs.inside.Firsts.{first_form, first_placed};
 ghost use Rattle.lisp_forms.specs.Rows.{lambda_form};
 ghost use Rattle.lisp_forms.specs.Trees.{first as first_of, form};
 

@@ -1,10 +1,10 @@
 ghost use Rattle.std.specs.Prelude.{◌≡◌, ◌++◌, None, IfOk, OnOk};
 ghost use Rattle.std.specs.Result.{IfErr};
 ghost use Rattle.lisp_program.specs.Program.{AreWhole, program_of};
-ghost use Rattle.lisp_forms.specs.Flat.{flat};
+ghost use Rattle.lisp_forms.specs.inside.Flat.{flat};
 ghost use Rattle.lisp_forms.specs.Program;
 ghost use Rattle.lisp_forms.specs.Trees.{Expansion};
-ghost use Rattle.lisp_forms.specs.Written.{one_before, place_here};
+ghost use Rattle.lisp_forms.specs.inside.Written.{one_before, place_here};
 
 use crate::blocks::is_function;
 use crate::program::{functions, variables};

@@ -1,13 +1,13 @@
 ghost use Rattle.std.specs.Prelude.{◌≡◌, ◌<◌, ◌^◌, IfOk, Some, length};
 ghost use Rattle.lisp_base.specs.Writing.{Wrote};
 ghost use Rattle.form_shapes.specs.Bindings.{bound_in};
-ghost use Rattle.form_shapes.specs.Contexts.{scope_at};
-ghost use Rattle.form_shapes.specs.One.{let_variables};
+ghost use Rattle.form_shapes.specs.inside.Contexts.{scope_at};
+ghost use Rattle.form_shapes.specs.inside.One.{let_variables};
 ghost use Rattle.form_shapes.specs.Scopes.{Scope};
 ghost use Rattle.lisp_forms.specs.Expansion.{parts_in, values_in};
-ghost use Rattle.lisp_forms.specs.Flat.{flat, flat_one};
-ghost use Rattle.lisp_forms.specs.Written.{bind_nodes, forms_under, number_behind, turn_nodes, turn_parts};
-ghost use Rattle.lisp_forms.specs.Firsts.{bound_value};
+ghost use Rattle.lisp_forms.specs.inside.Flat.{flat, flat_one};
+ghost use Rattle.lisp_forms.specs.inside.Written.{bind_nodes, forms_under, number_behind, turn_nodes, turn_parts};
+ghost use Rattle.lisp_forms.specs.inside.Firsts.{bound_value};
 ghost use Rattle.lisp_forms.specs.Rows.{bind_kind as bind_kind_of, let_form, let_star_form};
 
 use crate::expand::{push_all, push_head};

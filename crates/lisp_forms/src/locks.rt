@@ -1,10 +1,10 @@
 ghost use Rattle.std.specs.Prelude.{◌≡◌, IfOk};
 ghost use Rattle.lisp_base.specs.Writing.{Wrote};
-ghost use Rattle.form_shapes.specs.Contexts.{scope_at};
+ghost use Rattle.form_shapes.specs.inside.Contexts.{scope_at};
 ghost use Rattle.lisp_forms.specs.Expansion.{forms_in, parts_in};
-ghost use Rattle.lisp_forms.specs.Flat.{flat_one};
+ghost use Rattle.lisp_forms.specs.inside.Flat.{flat_one};
 ghost use Rattle.lisp_forms.specs.Rows;
-ghost use Rattle.lisp_forms.specs.Written.{either_nodes, grab_nodes, lock_of, locked_nodes, region_nodes};
+ghost use Rattle.lisp_forms.specs.inside.Written.{either_nodes, grab_nodes, lock_of, locked_nodes, region_nodes};
 
 use crate::expand::{push_all, push_by_roles, push_head};
 use crate::nodes::{push_form, push_local, push_nil, push_node};

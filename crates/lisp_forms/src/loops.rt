@@ -1,11 +1,11 @@
 ghost use Rattle.std.specs.Prelude.{◌≡◌, IfOk};
 ghost use Rattle.lisp_base.specs.Writing.{Wrote};
-ghost use Rattle.form_shapes.specs.Contexts.{scope_at, with_opened};
+ghost use Rattle.form_shapes.specs.inside.Contexts.{scope_at, with_opened};
 ghost use Rattle.lisp_forms.specs.Expansion.{body_in, parts_in, within_first};
 ghost use Rattle.lisp_forms.specs.Rows.{in_dotimes, in_turn, result_of};
-ghost use Rattle.lisp_forms.specs.Flat.{flat_one};
+ghost use Rattle.lisp_forms.specs.inside.Flat.{flat_one};
 ghost use Rattle.lisp_forms.specs.Rows;
-ghost use Rattle.lisp_forms.specs.Written.{turn_head};
+ghost use Rattle.lisp_forms.specs.inside.Written.{turn_head};
 
 use crate::blocks::push_blocked;
 use crate::expand::{push_all, push_head};

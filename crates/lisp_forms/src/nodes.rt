@@ -1,6 +1,6 @@
 ghost use Rattle.std.specs.Prelude.{◌≡◌, ◌∷◌, []};
 ghost use Rattle.lisp_base.specs.Writing.{Wrote};
-ghost use Rattle.lisp_forms.specs.Flat.{flat_one, node, repeated};
+ghost use Rattle.lisp_forms.specs.inside.Flat.{flat_one, node, repeated};
 ghost use Rattle.lisp_forms.specs.Rows;
 ghost use Rattle.lisp_forms.specs.Trees.{nil_form};
 

@@ -1,13 +1,13 @@
 ghost use Rattle.std.specs.Prelude.{◌≡◌, ℕ};
 ghost use Rattle.lisp_base.specs.Forest.{count_of};
 ghost use Rattle.lisp_base.specs.Writing.{Wrote};
-ghost use Rattle.form_shapes.specs.Contexts.{scope_at};
-ghost use Rattle.form_shapes.specs.One.{place_by as place_of, symbol_by as symbol_of};
+ghost use Rattle.form_shapes.specs.inside.Contexts.{scope_at};
+ghost use Rattle.form_shapes.specs.inside.One.{place_by as place_of, symbol_by as symbol_of};
 ghost use Rattle.form_shapes.specs.Scopes.{Scope, target_in};
 ghost use Rattle.lisp_forms.specs.Expansion.{conds_in, forms_in, ors_in, pairs_in, parts_in};
-ghost use Rattle.lisp_forms.specs.Flat.{flat, flat_one};
-ghost use Rattle.lisp_forms.specs.Written.{clause_nodes, either_nodes};
-ghost use Rattle.lisp_forms.specs.Firsts.{first_form};
+ghost use Rattle.lisp_forms.specs.inside.Flat.{flat, flat_one};
+ghost use Rattle.lisp_forms.specs.inside.Written.{clause_nodes, either_nodes};
+ghost use Rattle.lisp_forms.specs.inside.Firsts.{first_form};
 ghost use Rattle.lisp_forms.specs.Rows;
 ghost use Rattle.lisp_forms.specs.Trees.{progn_form};
 

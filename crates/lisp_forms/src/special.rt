@@ -2,7 +2,7 @@ ghost use Rattle.std.specs.Prelude.{◌≡◌};
 ghost use Rattle.std.specs.List.{list_any};
 ghost use Rattle.lisp_base.specs.Writing.{Wrote};
 ghost use Rattle.form_shapes.specs.Scopes.{has};
-ghost use Rattle.lisp_forms.specs.Written.{special_node, special_nodes, special_parts as parts_of_special};
+ghost use Rattle.lisp_forms.specs.inside.Written.{special_node, special_nodes, special_parts as parts_of_special};
 
 use crate::nodes::{push_form, push_local};
 use form_shapes::expanded::ExpandedNode;

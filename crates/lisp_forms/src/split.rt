@@ -2,9 +2,9 @@ ghost use Rattle.std.specs.Prelude.{◌≡◌, ◌++◌, ◌∷◌, [], ◌+◌,
 ghost use Rattle.lisp_base.specs.Forest.{count_of};
 ghost use Rattle.lisp_program.specs.Forms.{forms_of, preorder};
 ghost use Rattle.lisp_program.specs.Program.{function_of};
-ghost use Rattle.lisp_forms.specs.Flat.{flat};
+ghost use Rattle.lisp_forms.specs.inside.Flat.{flat};
 ghost use Rattle.lisp_forms.specs.Program;
-ghost use Rattle.lisp_forms.specs.Written.{core_here, core_node, cores_in, function_here, is_done, left_behind};
+ghost use Rattle.lisp_forms.specs.inside.Written.{core_here, core_node, cores_in, function_here, is_done, left_behind};
 ghost use Rattle.lisp_forms.specs.Trees.{Expansion};
 
 use crate::blocks::{is_function, skipped_behind};

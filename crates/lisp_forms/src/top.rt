@@ -1,11 +1,11 @@
 ghost use Rattle.std.specs.Prelude.{◌≡◌, IfOk, OnOk};
 ghost use Rattle.lisp_base.specs.Writing.{Wrote};
 ghost use Rattle.lisp_data.specs.Data.{Data, count_of};
-ghost use Rattle.form_shapes.specs.Contexts.{scope_at};
+ghost use Rattle.form_shapes.specs.inside.Contexts.{scope_at};
 ghost use Rattle.form_shapes.specs.Scopes.{first_symbol as first_symbol_in};
 ghost use Rattle.form_shapes.specs.Shapes.{shape_of};
-ghost use Rattle.lisp_forms.specs.Known.{known_as};
-ghost use Rattle.lisp_forms.specs.Flat.{flat, flat_one};
+ghost use Rattle.lisp_forms.specs.inside.Known.{known_as};
+ghost use Rattle.lisp_forms.specs.inside.Flat.{flat, flat_one};
 ghost use Rattle.lisp_forms.specs.Program;
 
 use crate::blocks::{blocked_parts, push_blocked};

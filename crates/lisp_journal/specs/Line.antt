@@ -1,12 +1,13 @@
 -- Values on a line of journal and report.
 use Rattle.std.specs.Prelude.{ℕ, List, [], ◌∷◌, ◌==◌, true, if◌then◌else◌, codes}
+use Rattle.lisp_base.specs.Bytes.{newline}
 use Rattle.std.specs.List.{flat_map}
 use Rattle.lisp_base.specs.declared.value.Node.{Node}
 use Rattle.lisp_reader.specs.Printing.{printed}
 
 -- a byte on a line: a newline is written as `\n`
 abbrev pub line_byte : ℕ → List ℕ
-line_byte b = if b == 10 then codes "\\n" else b ∷ []
+line_byte b = if b == newline then codes "\\n" else b ∷ []
 
 -- characters on one line
 abbrev pub on_line : List ℕ → List ℕ

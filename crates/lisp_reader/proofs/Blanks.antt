@@ -6,7 +6,7 @@ use Rattle.std.proofs.lemmas.List.{drop_more, drop-drop}
 use Rattle.std.proofs.lemmas.List.Sums.{prefix_len-le-length}
 use Rattle.lisp_reader.specs.Parts.{Between, Comment, Opens, Closes, Quotes, begins_with_quote, parts_from}
 use Rattle.lisp_reader.specs.Parts.{is_separator}
-use Rattle.lisp_reader.specs.Scanning.{is_on_line}
+use Rattle.lisp_reader.specs.inside.Scanning.{is_on_line}
 
 -- a comment by whether its next byte ends the line
 comment_goes_on : (p b : ℕ) (bs : List ℕ) (v : Bool) → (b == 10) ≡ v

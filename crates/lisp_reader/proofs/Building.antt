@@ -10,13 +10,13 @@ use Rattle.lisp_reader.specs.declared.build.Partial.{Partial}
 use Rattle.lisp_reader.specs.declared.gather.Mark.{Mark}
 use Rattle.lisp_reader.specs.declared.gather.MarkKind.{MarkKind}
 use Rattle.lisp_reader.specs.declared.gather.MarkKind.TheVariants.{Open, Close, Quote, ALeaf}
-use Rattle.lisp_reader.specs.Build.{built, first_size, moved, opened, or_nothing, partial, quoted, total, with_item}
+use Rattle.lisp_reader.specs.inside.Build.{built, first_size, moved, opened, or_nothing, partial, quoted, total, with_item}
 use Rattle.lisp_reader.specs.Gathering.{quote_name}
 use Rattle.lisp_reader.specs.Grammar.{Item, ItemAnd, Items, ListItem, LiteralItem, NoItems, QuoteItem, TokenItem, data_in, datum_in, leaf_of, spelled, spelled_item}
-use Rattle.lisp_reader.specs.Marking.{mark_of}
+use Rattle.lisp_reader.specs.inside.Marking.{mark_of}
 use Rattle.lisp_reader.specs.Meanings.{meaning_in}
 use Rattle.lisp_reader.specs.Parts.{Part, Closes}
-use Rattle.lisp_reader.specs.Stack.{below, top_of}
+use Rattle.lisp_reader.specs.inside.Stack.{below, top_of}
 use Rattle.lisp_reader.specs.Tables.{Tables, number_in}
 
 -- what is written for data, each in front of the next

@@ -1,4 +1,5 @@
 -- Where a text may be cut: at a byte that is no token letter or ends a line, and right behind a byte of ASCII.
+use Rattle.lisp_reader.specs.Parts.{is_token_letter}
 use Rattle.std.specs.List.{prefix_len}
 use Rattle.std.specs.Str.{IsUtf8}
 use Rattle.std.proofs.Common.{◌≡◌, ℕ, ◌+◌, ◌<◌, ◌≤◌, Bool, true, false, ◌==◌, List, ◌∷◌, ◌++◌, length, get_or, drop, refl, ap, subst, arith, sym, ◌∙◌, length-append, length-drop, ⊎_elim}
@@ -7,7 +8,7 @@ use Rattle.std.proofs.lemmas.Bool.Decides.{nat_tests}
 use Rattle.std.proofs.lemmas.List.{drop_all, drop_at, drop-drop, get_or-drop, get_or_at, take_at}
 use Rattle.std.proofs.lemmas.List.Sums.{prefix_len_stops}
 use Rattle.std.proofs.lemmas.Str.{IsUtf8-append, IsUtf8-drop, IsUtf8-nil, IsUtf8-take, IsCharBoundary-after_ascii, IsCharBoundary-before_ascii}
-use Rattle.lisp_reader.specs.Scanning.{is_on_line, is_token_letter}
+use Rattle.lisp_reader.specs.inside.Scanning.{is_on_line}
 
 -- a byte past ASCII is none of ASCII
 differs : (b k : ℕ) → 128 ≤ b → k < 128 → (b == k) ≡ false

@@ -10,9 +10,9 @@ use Rattle.lisp_reader.specs.declared.refusal.ReadRefusal.TheVariants.{Refused, 
 use Rattle.lisp_reader.specs.declared.scan.PartKind.{PartKind}
 use Rattle.lisp_reader.specs.declared.scan.Scanned.TheVariants.{Found}
 use Rattle.lisp_reader.specs.Gathering.{Gathered, HoldsFront, at_end, faulty, gathered, place_in, taken, unless_fault, with_part, with_parts}
-use Rattle.lisp_reader.specs.Marking.{IsEndRefusal, IsRefusalOf, RefusedPart, TookPart, faultless, mark_of, marks_from}
+use Rattle.lisp_reader.specs.inside.Marking.{IsEndRefusal, IsRefusalOf, RefusedPart, TookPart, faultless, mark_of, marks_from}
 use Rattle.lisp_reader.specs.Parts.{Between, Part, parts_from, parts_of}
-use Rattle.lisp_reader.specs.Scanning.{IsScanned, part_of}
+use Rattle.lisp_reader.specs.inside.Scanning.{IsScanned, part_of}
 use Rattle.lisp_reader.specs.Tables.{Tables}
 use Rattle.lisp_reader.proofs.Stays.{marks_stay}
 use Rattle.lisp_reader.proofs.Used.{taken_uses}

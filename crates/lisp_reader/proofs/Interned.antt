@@ -16,7 +16,7 @@ use Rattle.symbol_table.specs.declared.error.InternError.{InternError}
 use Rattle.symbol_table.specs.declared.error.InternError.TheVariants.{TooMany, Memory}
 use Rattle.lisp_reader.specs.declared.refusal.ReadRefusal.{ReadRefusal}
 use Rattle.lisp_reader.specs.declared.refusal.ReadRefusal.TheVariants.{Refused}
-use Rattle.lisp_reader.specs.Marking.{IsInterned, IsNotInterned}
+use Rattle.lisp_reader.specs.inside.Marking.{IsInterned, IsNotInterned}
 use Rattle.lisp_reader.specs.Tables.{has_room, number_in}
 
 -- a name that has a number is found

@@ -2,7 +2,7 @@
 use Rattle.std.proofs.Common.{◌≡◌, ℕ, List, Option, Some, None, ap, sym, ◌∙◌, arith}
 use Rattle.std.proofs.lemmas.Str.{utf8_valid_len-IsValidUpTo}
 use Rattle.lisp_data.specs.Data.{data_of, each, written}
-use Rattle.lisp_data.specs.DataCode.{data_back}
+use Rattle.lisp_data.specs.inside.DataCode.{data_back}
 use Rattle.lisp_reader.specs.Gathering.{Fault, Gathered, faulty}
 use Rattle.lisp_reader.specs.Grammar.{Items, data_in, spelled}
 use Rattle.lisp_reader.specs.Parts.{Part}

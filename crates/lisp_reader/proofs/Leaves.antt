@@ -7,7 +7,7 @@ use Rattle.lisp_reader.specs.declared.gather.MarkKind.TheVariants.{ALeaf}
 use Rattle.lisp_reader.specs.declared.opens.Opening.{Opening}
 use Rattle.lisp_reader.specs.declared.refusal.ReadRefusal.{ReadRefusal}
 use Rattle.lisp_reader.specs.Gathering.{settled, with_part}
-use Rattle.lisp_reader.specs.Marking.{IsLeaf, RefusedPart, TookPart}
+use Rattle.lisp_reader.specs.inside.Marking.{IsLeaf, RefusedPart, TookPart}
 use Rattle.lisp_reader.specs.Parts.{Part, Token'}
 use Rattle.lisp_reader.specs.Tables.{Tables, tables_of}
 use Rattle.lisp_reader.proofs.Used.{taken_uses}

@@ -3,7 +3,7 @@ use Rattle.std.specs.Str.{IsUtf8}
 use Rattle.std.proofs.Common.{◌≡◌, ℕ, suc, ◌+◌, ◌<◌, ◌≤◌, Bool, true, false, not, List, [], ◌∷◌, ◌++◌, length, get_or, drop, refl, ap, subst, arith, ◌∙◌, add-one}
 use Rattle.std.proofs.lemmas.List.{drop_more}
 use Rattle.lisp_reader.specs.Parts.{Where', Between, Inside, Escaped, Literal, parts_from}
-use Rattle.lisp_reader.specs.Scanning.{GoesOn}
+use Rattle.lisp_reader.specs.inside.Scanning.{GoesOn}
 use Rattle.lisp_reader.proofs.Cut.{before_ascii, behind_ascii, cut_behind_ascii, without_ascii}
 
 -- where a literal goes on, behind a `\` or not

@@ -4,9 +4,8 @@ use Rattle.std.proofs.Common.{◌≡◌, ℕ, suc, ◌+◌, ◌<◌, ◌≤◌, 
 use Rattle.std.proofs.lemmas.Bool.Decides.{nat_tests}
 use Rattle.std.proofs.lemmas.List.{drop_more, drop-drop}
 use Rattle.std.proofs.lemmas.List.Sums.{prefix_len-le-length}
-use Rattle.lisp_reader.specs.Parts.{Where', Between, Within, Sharp, Comment, Inside, Escaped, Part, Opens, Closes, Quotes, Literal, OpenLiteral, Token', begins_with_quote, parts_from, with_token_letter}
+use Rattle.lisp_reader.specs.Parts.{Where', Between, Within, Sharp, Comment, Inside, Escaped, Part, Opens, Closes, Quotes, Literal, OpenLiteral, Token', begins_with_quote, parts_from, with_token_letter, is_token_letter}
 use Rattle.lisp_reader.specs.Parts.{is_separator}
-use Rattle.lisp_reader.specs.Scanning.{is_token_letter}
 
 -- the part by the tests of a byte, one after the other
 abbrev pub by_tests : (sep semi text open' close quote : Bool) → (s c t o k q other : List Part) → List Part

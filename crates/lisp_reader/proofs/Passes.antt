@@ -3,12 +3,12 @@ use Rattle.std.specs.Str.{IsUtf8}
 use Rattle.std.proofs.Common.{◌≡◌, ℕ, ◌<◌, ◌≤◌, ◌^◌, List, [], None, length, map, ap, sym, ◌∙◌, append-nil, arith}
 use Rattle.std.proofs.lemmas.List.{length-map}
 use Rattle.lisp_data.specs.Data.{AreWhole, Data, data_of, each, written}
-use Rattle.lisp_data.specs.DataCode.{data_back}
+use Rattle.lisp_data.specs.inside.DataCode.{data_back}
 use Rattle.lisp_data.specs.declared.datum.DatumNode.{DatumNode}
-use Rattle.lisp_reader.specs.Build.{built}
+use Rattle.lisp_reader.specs.inside.Build.{built}
 use Rattle.lisp_reader.specs.Gathering.{Gathered, HoldsFront, gathered, with_parts}
 use Rattle.lisp_reader.specs.Grammar.{data_in}
-use Rattle.lisp_reader.specs.Marking.{faultless, mark_of}
+use Rattle.lisp_reader.specs.inside.Marking.{faultless, mark_of}
 use Rattle.lisp_reader.specs.Parts.{Between, parts_of}
 use Rattle.lisp_reader.specs.Reading.{Reads, longest}
 use Rattle.lisp_reader.specs.Tables.{Tables}

@@ -6,8 +6,7 @@ use Rattle.std.proofs.lemmas.Bool.Decides.{nat_tests}
 use Rattle.std.proofs.lemmas.List.{reverse-append, take-append-drop}
 use Rattle.std.proofs.lemmas.List.Elements.{All-nil, All-cons, All-contains}
 use Rattle.std.proofs.lemmas.List.Folds.{length-prefix_len}
-use Rattle.lisp_reader.specs.Parts.{Where', Between, Within, Sharp, Comment, Inside, Escaped, Part, Opens, Closes, Quotes, Literal, OpenLiteral, Token', begins_with_quote, is_separator, parts_from}
-use Rattle.lisp_reader.specs.Scanning.{is_token_letter}
+use Rattle.lisp_reader.specs.Parts.{Where', Between, Within, Sharp, Comment, Inside, Escaped, Part, Opens, Closes, Quotes, Literal, OpenLiteral, Token', begins_with_quote, is_separator, parts_from, is_token_letter}
 use Rattle.lisp_reader.specs.Tokens.{IsLongestRun, TokensAreRuns, begins_with_letter}
 use Rattle.lisp_reader.proofs.Parted.{by_tests, front_token, same_case}
 

@@ -5,9 +5,9 @@ use Rattle.std.proofs.Common.{◌≡◌, ◌≢◌, ℕ, ◌+◌, ◌<◌, true,
 use Rattle.std.proofs.lemmas.Bool.{cases_lt, false≢true}
 use Rattle.std.proofs.lemmas.Bool.Decides.{nat_tests}
 use Rattle.std.proofs.lemmas.List.{get_or-drop, get_or_past}
-use Rattle.lisp_reader.specs.Parts.{Between, Opens, Closes, Quotes, Token', begins_with_quote, parts_from}
+use Rattle.lisp_reader.specs.Parts.{Between, Opens, Closes, Quotes, Token', begins_with_quote, parts_from, is_token_letter}
 use Rattle.lisp_reader.specs.Parts.{is_separator}
-use Rattle.lisp_reader.specs.Scanning.{GoesOn, is_on_line, is_token_letter}
+use Rattle.lisp_reader.specs.inside.Scanning.{GoesOn, is_on_line}
 use Rattle.lisp_reader.proofs.Blanks.{by_first_byte, close_at, comment_at, line_length, line_within, open_at, quote_at, separator_at, sharp_at}
 use Rattle.lisp_reader.proofs.Cut.{cut_behind_ascii, cut_behind_line, cut_behind_token, wide_letter}
 use Rattle.lisp_reader.proofs.Parted.{token_at, token_length, token_within}

@@ -10,7 +10,7 @@ use Rattle.lisp_reader.specs.declared.meaning.Meaning.{Meaning}
 use Rattle.lisp_reader.specs.declared.meaning.Meaning.TheVariants.{Integer, Time, Symbol, Keyword, TooLarge, Bad}
 use Rattle.lisp_reader.specs.declared.opens.Opening.{Opening}
 use Rattle.lisp_reader.specs.Gathering.{Gathered, Taken, closed_by, closing, gathered, no_more, place_in, quote_name, symbol_ends, symbol_in, taken, token_ends, token_fault, unless_fault, with_literal, with_symbol}
-use Rattle.lisp_reader.specs.Marking.{faultless, kind_in, mark_of, marks_from}
+use Rattle.lisp_reader.specs.inside.Marking.{faultless, kind_in, mark_of, marks_from}
 use Rattle.lisp_reader.specs.Grammar.{leaf_of}
 use Rattle.lisp_reader.specs.Meanings.{keyword_name, meaning_in, symbol_name}
 use Rattle.lisp_reader.specs.Parts.{Part, Opens, Closes, Quotes, Literal, OpenLiteral, Token'}

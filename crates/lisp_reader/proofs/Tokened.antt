@@ -7,8 +7,7 @@ use Rattle.std.proofs.lemmas.Bool.Decides.{nat_tests}
 use Rattle.std.proofs.lemmas.List.{drop-drop, get_or-drop, get_or-reverse, get_or_append_left, length-reverse}
 use Rattle.std.proofs.lemmas.List.Elements.{Contains-append_left, Contains-append_right, Contains-push}
 use Rattle.std.proofs.lemmas.List.Sums.{prefix_len_passes}
-use Rattle.lisp_reader.specs.Parts.{Between, Part, Opens, Closes, Quotes, Token', begins_with_quote, is_separator, parts_from}
-use Rattle.lisp_reader.specs.Scanning.{is_token_letter}
+use Rattle.lisp_reader.specs.Parts.{Between, Part, Opens, Closes, Quotes, Token', begins_with_quote, is_separator, parts_from, is_token_letter}
 use Rattle.lisp_reader.specs.Tokens.{IsLongestRun, RunsAreTokens, begins_with_letter, is_plain}
 use Rattle.lisp_reader.proofs.Parted.{by_tests, front_token}
 use Rattle.lisp_reader.proofs.Runs.{both_hold, sharp_front, some_letter}

@@ -1,12 +1,9 @@
 pub mod Meanings
 pub mod Parts
 pub mod Printing
-pub mod Scanning
 pub mod Tokens
 pub mod Tables
 pub mod Gathering
 pub mod Grammar
-pub mod Marking
-pub mod Stack
-pub mod Build
 pub mod Reading
+pub mod inside

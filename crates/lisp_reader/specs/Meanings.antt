@@ -1,5 +1,6 @@
 -- What a token means.
 use Rattle.std.specs.Prelude.{ℕ, pos, neg_ℤ, ◌+◌, ◌-◌, ◌*◌, ◌^◌, List, Bool, not, ◌&&◌, ◌||◌, ◌==◌, if◌then◌else◌, nat_lt, nat_le, length, map, take, drop, get_or, codes}
+use Rattle.lisp_base.specs.Bytes.{colon, dot, minus_sign, plus_sign}
 use Rattle.std.specs.Char.{is_ascii_digit, is_ascii_alphanumeric, to_ascii_uppercase}
 use Rattle.std.specs.List.{list_all, list_any, prefix_len}
 use Rattle.std.specs.Str.{bytes_eq}
@@ -13,7 +14,7 @@ are_digits ds = nat_lt 0 (length ds) && list_all is_ascii_digit ds
 
 -- a plus or a minus
 abbrev pub is_sign : ℕ → Bool
-is_sign b = (b == 43) || (b == 45)
+is_sign b = (b == plus_sign) || (b == minus_sign)
 
 -- the letters after the sign, where there is a sign; else all letters
 abbrev pub unsigned : List ℕ → List ℕ
@@ -36,7 +37,7 @@ behind_dot letters = drop (digits_before letters + 1) letters
 -- digits, a dot, one to six digits
 abbrev pub is_time : List ℕ → Bool
 is_time letters =
-    nat_lt 0 (digits_before letters) && (get_or letters (digits_before letters) 0 == 46) && are_digits (behind_dot letters)
+    nat_lt 0 (digits_before letters) && (get_or letters (digits_before letters) 0 == dot) && are_digits (behind_dot letters)
     && nat_lt (length (behind_dot letters)) 7
 
 -- the microseconds of a time
@@ -51,7 +52,7 @@ time_of micros = if nat_le micros 4000000000000000 then Time micros else TooLarg
 -- a token that begins as a number does
 abbrev pub begins_as_number : List ℕ → Bool
 begins_as_number letters =
-    is_ascii_digit (get_or letters 0 0) || (get_or letters 0 0 == 46) || (is_sign (get_or letters 0 0) && is_ascii_digit (get_or letters 1 0))
+    is_ascii_digit (get_or letters 0 0) || (get_or letters 0 0 == dot) || (is_sign (get_or letters 0 0) && is_ascii_digit (get_or letters 1 0))
 
 -- the characters of names
 abbrev pub is_name_letter : ℕ → Bool
@@ -73,11 +74,11 @@ is_package prefix =
 
 -- how many letters are before the first colon
 abbrev pub before_colon : List ℕ → ℕ
-before_colon letters = prefix_len (λ b. not (b == 58)) letters
+before_colon letters = prefix_len (λ b. not (b == colon)) letters
 
 -- where the name begins after a prefix and one or two colons
 abbrev pub behind_colons : List ℕ → ℕ
-behind_colons letters = if get_or letters (before_colon letters + 1) 0 == 58 then before_colon letters + 2 else before_colon letters + 1
+behind_colons letters = if get_or letters (before_colon letters + 1) 0 == colon then before_colon letters + 2 else before_colon letters + 1
 
 -- a symbol whose name begins there, where that is a name
 abbrev pub symbol_at : ℕ → List ℕ → Meaning
@@ -98,11 +99,11 @@ keyword_in letters = if is_symbol_name (drop 1 letters) then Keyword else Bad
 -- keyword, or a symbol with or without a prefix. A symbol has the place of its name in the token.
 abbrev pub meaning_in : List ℕ → Meaning
 meaning_in letters =
-    if are_digits (unsigned letters) then integer_of (get_or letters 0 0 == 45) (digits_value 10 (unsigned letters))
+    if are_digits (unsigned letters) then integer_of (get_or letters 0 0 == minus_sign) (digits_value 10 (unsigned letters))
     else if is_time letters then time_of (micros_in letters)
     else if bytes_eq letters (codes "1+") || bytes_eq letters (codes "1-") then Symbol 0
     else if begins_as_number letters then Bad
-    else if get_or letters 0 0 == 58 then keyword_in letters
+    else if get_or letters 0 0 == colon then keyword_in letters
     else named letters
 
 -- the name of the symbol that a token means, where its name begins there

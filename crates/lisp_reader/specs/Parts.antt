@@ -1,9 +1,14 @@
 -- How a text falls into parts: parentheses, quotes, string literals and tokens.
-use Rattle.std.specs.Prelude.{ℕ, suc, List, [], ◌∷◌, ◌++◌, Bool, true, false, ◌&&◌, ◌||◌, ◌==◌, if◌then◌else◌}
+use Rattle.std.specs.Prelude.{ℕ, suc, List, [], ◌∷◌, ◌++◌, Bool, true, false, ◌&&◌, ◌||◌, ◌==◌, if◌then◌else◌, not}
+use Rattle.lisp_base.specs.Bytes.{apostrophe, backslash, carriage_return, form_feed, left_parenthesis, newline, number_sign, quotation_mark, right_parenthesis, semicolon, space, tab}
 
 -- space, tab, newline, carriage return and form feed separate
 abbrev pub is_separator : ℕ → Bool
-is_separator b = (b == 32) || (b == 9) || (b == 10) || (b == 13) || (b == 12)
+is_separator b = (b == space) || (b == tab) || (b == newline) || (b == carriage_return) || (b == form_feed)
+
+-- a byte that may belong to a token
+abbrev pub is_token_letter : ℕ → Bool
+is_token_letter b = not (is_separator b || (b == semicolon) || (b == quotation_mark) || (b == left_parenthesis) || (b == right_parenthesis) || (b == apostrophe))
 
 -- A part, with the place of its first byte. A literal has its characters, without the `\` before one; an open literal has no end.
 pub data Part : Type 0 where
@@ -28,7 +33,7 @@ pub data Where' : Type 0 where
 -- the first byte is `'`
 abbrev pub begins_with_quote : List ℕ → Bool
 begins_with_quote [] = false
-begins_with_quote (b ∷ bs) = b == 39
+begins_with_quote (b ∷ bs) = b == apostrophe
 
 -- one more letter before a token that begins directly after it, or else as a token of its own
 abbrev pub with_token_letter : ℕ → ℕ → List Part → List Part
@@ -43,11 +48,11 @@ parts_from (Inside start so_far) p [] = OpenLiteral start ∷ []
 parts_from (Escaped start so_far) p [] = OpenLiteral start ∷ []
 parts_from _ p [] = []
 -- a comment goes to the end of its line
-parts_from Comment p (b ∷ bs) = if b == 10 then parts_from Between (suc p) bs else parts_from Comment (suc p) bs
+parts_from Comment p (b ∷ bs) = if b == newline then parts_from Between (suc p) bs else parts_from Comment (suc p) bs
 -- a literal goes to the next `"`; a `\` takes the next character as it is
 parts_from (Inside start so_far) p (b ∷ bs) =
-    if b == 34 then Literal start so_far ∷ parts_from Between (suc p) bs
-    else if b == 92 then parts_from (Escaped start so_far) (suc p) bs
+    if b == quotation_mark then Literal start so_far ∷ parts_from Between (suc p) bs
+    else if b == backslash then parts_from (Escaped start so_far) (suc p) bs
     else parts_from (Inside start (so_far ++ b ∷ [])) (suc p) bs
 parts_from (Escaped start so_far) p (b ∷ bs) = parts_from (Inside start (so_far ++ b ∷ [])) (suc p) bs
 parts_from Sharp p (b ∷ bs) = parts_from Between (suc p) bs
@@ -55,20 +60,20 @@ parts_from Sharp p (b ∷ bs) = parts_from Between (suc p) bs
 -- before `'` begins a quote where no token goes on
 parts_from Between p (b ∷ bs) =
     if is_separator b then parts_from Between (suc p) bs
-    else if b == 59 then parts_from Comment (suc p) bs
-    else if b == 34 then parts_from (Inside p []) (suc p) bs
-    else if b == 40 then Opens p ∷ parts_from Between (suc p) bs
-    else if b == 41 then Closes p ∷ parts_from Between (suc p) bs
-    else if b == 39 then Quotes false p ∷ parts_from Between (suc p) bs
-    else if (b == 35) && begins_with_quote bs then Quotes true p ∷ parts_from Sharp (suc p) bs
+    else if b == semicolon then parts_from Comment (suc p) bs
+    else if b == quotation_mark then parts_from (Inside p []) (suc p) bs
+    else if b == left_parenthesis then Opens p ∷ parts_from Between (suc p) bs
+    else if b == right_parenthesis then Closes p ∷ parts_from Between (suc p) bs
+    else if b == apostrophe then Quotes false p ∷ parts_from Between (suc p) bs
+    else if (b == number_sign) && begins_with_quote bs then Quotes true p ∷ parts_from Sharp (suc p) bs
     else with_token_letter p b (parts_from Within (suc p) bs)
 parts_from Within p (b ∷ bs) =
     if is_separator b then parts_from Between (suc p) bs
-    else if b == 59 then parts_from Comment (suc p) bs
-    else if b == 34 then parts_from (Inside p []) (suc p) bs
-    else if b == 40 then Opens p ∷ parts_from Between (suc p) bs
-    else if b == 41 then Closes p ∷ parts_from Between (suc p) bs
-    else if b == 39 then Quotes false p ∷ parts_from Between (suc p) bs
+    else if b == semicolon then parts_from Comment (suc p) bs
+    else if b == quotation_mark then parts_from (Inside p []) (suc p) bs
+    else if b == left_parenthesis then Opens p ∷ parts_from Between (suc p) bs
+    else if b == right_parenthesis then Closes p ∷ parts_from Between (suc p) bs
+    else if b == apostrophe then Quotes false p ∷ parts_from Between (suc p) bs
     else with_token_letter p b (parts_from Within (suc p) bs)
 
 -- the parts of a text

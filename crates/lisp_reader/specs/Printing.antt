@@ -1,5 +1,6 @@
 -- How values are printed.
 use Rattle.std.specs.Prelude.{ℕ, List, [], ◌∷◌, ◌++◌, ◌/◌, ◌%◌, ◌==◌, Bool, true, false, ◌||◌, if◌then◌else◌, Option, Some, None, codes, slice_get, unwrap_or, nat_lt}
+use Rattle.lisp_base.specs.Bytes.{backslash, quotation_mark}
 use Rattle.std.specs.Fmt.{decimal, signed_decimal}
 use Rattle.std.specs.List.{flat_map}
 use Rattle.lisp_base.specs.declared.condition.Class.{Class}
@@ -14,7 +15,7 @@ symbol_text names s = unwrap_or (slice_get names s) (codes "?")
 
 -- a byte of a string, with a `\` before `"` and `\`
 abbrev pub escaped_byte : ℕ → List ℕ
-escaped_byte b = if (b == 34) || (b == 92) then 92 ∷ b ∷ [] else b ∷ []
+escaped_byte b = if (b == quotation_mark) || (b == backslash) then backslash ∷ b ∷ [] else b ∷ []
 
 -- the characters of a string in `"`, with a `\` before `"` and `\`
 abbrev pub escaped_string : List ℕ → List ℕ

@@ -1,8 +1,8 @@
 -- The laws of tokens: they are the longest runs of bytes that may belong to one.
 use Rattle.std.specs.Prelude.{◌≡◌, ◌⊎◌, ◌<◌, ℕ, List, [], ◌∷◌, ◌++◌, Bool, true, false, not, ◌||◌, ◌==◌, length, reverse}
+use Rattle.lisp_base.specs.Bytes.{number_sign, quotation_mark, semicolon}
 use Rattle.std.specs.List.{Contains, list_all}
-use Rattle.lisp_reader.specs.Parts.{Token', begins_with_quote, parts_of}
-use Rattle.lisp_reader.specs.Scanning.{is_token_letter}
+use Rattle.lisp_reader.specs.Parts.{Token', begins_with_quote, parts_of, is_token_letter}
 
 -- the first of these bytes may belong to a token
 abbrev pub begins_with_letter : List ℕ → Bool
@@ -27,10 +27,10 @@ TokensAreRuns = (text : List ℕ) (place : ℕ) (letters : List ℕ) → Contain
 
 -- a byte that begins neither a comment nor a string literal
 abbrev pub is_plain : ℕ → Bool
-is_plain b = not ((b == 59) || (b == 34))
+is_plain b = not ((b == semicolon) || (b == quotation_mark))
 
 -- in a text without such bytes each such run is a token, or it is the `#` of a `#'`
 abbrev pub RunsAreTokens : Type 0
 RunsAreTokens =
     (text : List ℕ) (place : ℕ) (letters : List ℕ) → list_all is_plain text ≡ true → (run : IsLongestRun text place letters)
-    → Contains (parts_of text) (Token' place letters) ⊎ ((letters ≡ 35 ∷ []) × (begins_with_quote run.after ≡ true))
+    → Contains (parts_of text) (Token' place letters) ⊎ ((letters ≡ number_sign ∷ []) × (begins_with_quote run.after ≡ true))

@@ -1,6 +1,6 @@
 ghost use Rattle.std.specs.Prelude.{◌≡◌, ◌+◌, ◌<◌, ◌≤◌, ◌^◌, length, IfOk, OnOk};
-ghost use Rattle.lisp_reader.specs.Build.{built, closed, first_size as first_size_of, moved, nothing_built, opened, quoted, total, with_item};
-ghost use Rattle.lisp_reader.specs.Stack.{top_of};
+ghost use Rattle.lisp_reader.specs.inside.Build.{built, closed, first_size as first_size_of, moved, nothing_built, opened, quoted, total, with_item};
+ghost use Rattle.lisp_reader.specs.inside.Stack.{top_of};
 
 use crate::gather::{Mark, MarkKind};
 use crate::stack::Stack;

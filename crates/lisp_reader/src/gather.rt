@@ -4,10 +4,10 @@ ghost use Rattle.std.specs.List.{list_all};
 ghost use Rattle.std.specs.Result.{IfErr};
 ghost use Rattle.std.specs.Str.{IsUtf8};
 ghost use Rattle.lisp_reader.specs.Gathering.{at_end, gathered as gathered_of};
-ghost use Rattle.lisp_reader.specs.Marking.{IsEndRefusal, IsInterned, IsLeaf, IsNoLeaf, IsNotInterned, IsRefusalOf, RefusedPart, TookPart, faultless, mark_of};
+ghost use Rattle.lisp_reader.specs.inside.Marking.{IsEndRefusal, IsInterned, IsLeaf, IsNoLeaf, IsNotInterned, IsRefusalOf, RefusedPart, TookPart, faultless, mark_of};
 ghost use Rattle.lisp_reader.specs.Meanings;
 ghost use Rattle.lisp_reader.specs.Parts.{Opens as OpensPart, Closes, Quotes, Literal, Token', parts_of};
-ghost use Rattle.lisp_reader.specs.Scanning.{part_of};
+ghost use Rattle.lisp_reader.specs.inside.Scanning.{part_of};
 ghost use Rattle.lisp_reader.specs.Tables.{Tables, tables_of};
 
 use crate::meaning::{Meaning, letters_from, meaning_of};

@@ -1,7 +1,7 @@
 ghost use Rattle.std.specs.Prelude.{◌≡◌, ◌==◌, [], ◌∷◌, length, OnOk};
 ghost use Rattle.std.specs.Bool.{OnFalse, OnTrue};
 ghost use Rattle.lisp_reader.specs.Gathering.{closed_by, settled};
-ghost use Rattle.lisp_reader.specs.Marking.{innermost_place};
+ghost use Rattle.lisp_reader.specs.inside.Marking.{innermost_place};
 
 use lisp_base::id::Place;
 use lisp_base::memory::Memory;

@@ -1,8 +1,8 @@
 ghost use Rattle.std.specs.Prelude.{◌≡◌, ◌<◌, ◌≤◌, ◌==◌, ◌&&◌, drop, length, slice_index, IfOk};
 ghost use Rattle.std.specs.List.{prefix_len};
 ghost use Rattle.std.specs.Str.{IsUtf8};
-ghost use Rattle.lisp_reader.specs.Parts.{is_separator as is_separator_byte};
-ghost use Rattle.lisp_reader.specs.Scanning.{IsScanned, is_on_line, is_token_letter as is_token_letter_byte};
+ghost use Rattle.lisp_reader.specs.Parts.{is_separator as is_separator_byte, is_token_letter as is_token_letter_byte};
+ghost use Rattle.lisp_reader.specs.inside.Scanning.{IsScanned, is_on_line};
 
 use lisp_base::memory::Memory;
 use std::alloc::Global;

@@ -1,5 +1,5 @@
 ghost use Rattle.std.specs.Prelude.{◌≡◌, [], ◌∷◌, length, OnOk};
-ghost use Rattle.lisp_reader.specs.Stack.{top_of, below};
+ghost use Rattle.lisp_reader.specs.inside.Stack.{top_of, below};
 
 use lisp_base::memory::Memory;
 use std::alloc::Global;

@@ -9,7 +9,7 @@ use Rattle.lisp_session.specs.Programs.{NeverBoth, Reads, IsRefused, as_text, as
 use Rattle.lisp_journal.specs.Refusal.{refusal_line, words_line}
 use Rattle.lisp_session.specs.Headline.{Headline, IsAnswer, IsEmptied, IsRefusedText, IsRunStatus, IsRunText, IsStatus, IsWhole, Promise, RefusedProgram, RefusesText, TookAll, TookSome, WereRead, WereTaken, WroteFront, of_a_refusal, of_a_run, of_words}
 use Rattle.lisp_session.specs.Answers.{LeftBy, Says, answer_status, answer_text}
-use Rattle.lisp_session.specs.Ends.{AnswersAs, EndsAs, ReadsFor, StopsReading, WritesAs, has_answer, has_none, is_read, is_stopped, number_of, outcome_of}
+use Rattle.lisp_session.specs.inside.Ends.{AnswersAs, EndsAs, ReadsFor, StopsReading, WritesAs, has_answer, has_none, is_read, is_stopped, number_of, outcome_of}
 use Rattle.lisp_session.specs.Texts.{StopsWriting, WroteWhole}
 use Rattle.lisp_session.specs.declared.answer.Answer.{Answer}
 use Rattle.lisp_session.specs.declared.answer.Answer.TheVariants.{Ran, Refused, RefusedWords}

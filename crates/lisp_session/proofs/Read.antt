@@ -11,7 +11,7 @@ use Rattle.lisp_forms.specs.Program.{IsRefusal as IsRefusalOfData}
 use Rattle.form_shapes.specs.declared.refusal.ExpandRefusal.{ExpandRefusal}
 use Rattle.form_shapes.specs.declared.refusal.ExpandRefusal.TheVariants.{Refused as RefusedData, Memory as NoMemoryForForms}
 use Rattle.lisp_session.specs.Programs.{as_data, as_text, as_unbuilt, first_tables}
-use Rattle.lisp_session.specs.Reading.{IsRefusal, IsUnbuilt, IsWhole, of_data, of_text}
+use Rattle.lisp_session.specs.inside.Reading.{IsRefusal, IsUnbuilt, IsWhole, of_data, of_text}
 use Rattle.lisp_session.specs.declared.program.Refusal.{Refusal}
 use Rattle.lisp_session.specs.declared.program.Refusal.TheVariants.{Refused, Memory as NoMemory}
 

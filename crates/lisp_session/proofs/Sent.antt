@@ -7,7 +7,7 @@ use Rattle.lisp_base.specs.Writing.{Wrote}
 use Rattle.lisp_journal.specs.Lines.{WroteLine, WroteNothing}
 use Rattle.lisp_reader.specs.Reading.{longest}
 use Rattle.lisp_session.specs.Headline.{WereRead, WereTaken}
-use Rattle.lisp_session.specs.Ends.{IsSending, IsSpread, StopsPage, StopsReading, StopsRead, TurnedPage}
+use Rattle.lisp_session.specs.inside.Ends.{IsSending, IsSpread, StopsPage, StopsReading, StopsRead, TurnedPage}
 use Rattle.lisp_session.specs.Texts.{StopsWrite, StopsWriting, WroteWhole}
 use Rattle.lisp_session.specs.declared.input.ReadFailure.{ReadFailure}
 use Rattle.lisp_session.specs.declared.output.WriteFailure.{WriteFailure}

@@ -5,7 +5,7 @@ ghost use Rattle.run_semantics.specs.Run.{RunsAs};
 ghost use Rattle.lisp_session.specs.Headline.{are_accepted, steps};
 ghost use Rattle.lisp_session.specs.Answers.{Answers, LeftBy, Says, answer_status};
 ghost use Rattle.lisp_session.specs.Programs.{Reads};
-ghost use Rattle.lisp_session.specs.Reading.{IsRefusal, program_in};
+ghost use Rattle.lisp_session.specs.inside.Reading.{IsRefusal, program_in};
 
 use crate::laws::{never_both, one_refusal};
 use crate::program::{Reading, Refusal, read};

@@ -1,6 +1,6 @@
 ghost use Rattle.std.specs.Prelude.{◌≡◌, IfOk, IfErr, OnOk};
 ghost use Rattle.lisp_session.specs.Headline.{WereRead};
-ghost use Rattle.lisp_session.specs.Ends.{StopsReading};
+ghost use Rattle.lisp_session.specs.inside.Ends.{StopsReading};
 
 use lisp_edge::answers::ReadAnswer;
 use lisp_edge::source::Source;

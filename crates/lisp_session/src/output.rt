@@ -1,7 +1,7 @@
 ghost use Rattle.std.specs.Prelude.{◌≡◌, OnOk, OnErr, IsFalse, IsSome};
 ghost use Rattle.std.specs.Result.{IfErr};
 ghost use Rattle.lisp_session.specs.Answers.{answer_text};
-ghost use Rattle.lisp_session.specs.Ends.{StopsPage, TurnedPage};
+ghost use Rattle.lisp_session.specs.inside.Ends.{StopsPage, TurnedPage};
 ghost use Rattle.lisp_session.specs.Texts.{StopsWriting, WroteWhole};
 ghost use Rattle.lisp_session.specs.declared.output.WriteFailure.TheVariants.{Fault};
 

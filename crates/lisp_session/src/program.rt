@@ -5,7 +5,7 @@ ghost use Rattle.lisp_program.specs.Program.{program_of};
 ghost use Rattle.lisp_reader.specs.Tables.{tables_of};
 ghost use Rattle.plain_program.specs.Forms.{forms_of};
 ghost use Rattle.lisp_session.specs.Programs.{Reads};
-ghost use Rattle.lisp_session.specs.Reading.{IsPlain, IsRefusal, IsUnbuilt, IsWhole, of_data, of_text, program_in};
+ghost use Rattle.lisp_session.specs.inside.Reading.{IsPlain, IsRefusal, IsUnbuilt, IsWhole, of_data, of_text, program_in};
 ghost use Rattle.lisp_session.specs.declared.program.Refusal.TheVariants.{Memory};
 
 use form_shapes::refusal::ExpandRefusal;

@@ -1,6 +1,6 @@
 ghost use Rattle.std.specs.Prelude.{◌≡◌, ℕ, List, Option, true, false};
 ghost use Rattle.lisp_session.specs.Answers.{Says};
-ghost use Rattle.lisp_session.specs.Ends.{AnswersAs, EndsAs, WritesAs, number_of, outcome_of};
+ghost use Rattle.lisp_session.specs.inside.Ends.{AnswersAs, EndsAs, WritesAs, number_of, outcome_of};
 ghost use Rattle.lisp_session.specs.Headline.{Promise, are_accepted};
 
 use crate::answer::{Answer, answer_to};

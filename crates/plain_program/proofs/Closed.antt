@@ -9,8 +9,8 @@ use Rattle.plain_program.specs.declared.form.PlainKind.TheVariants.{Constant, Pl
 use Rattle.plain_program.specs.Points.{Points, Done, Do, Ask, joined, all_of, body_of, table}
 use Rattle.plain_program.specs.declared.steps.Step.{Step}
 use Rattle.plain_program.specs.declared.steps.Step.TheVariants.{Act, Test as TestStep, Enter as EnterStep}
-use Rattle.plain_program.specs.Steps.{steps_of}
-use Rattle.plain_program.specs.Flatten.{strung, body_steps, under_steps, opening_steps, closing_steps}
+use Rattle.plain_program.specs.inside.Steps.{steps_of}
+use Rattle.plain_program.specs.inside.Flatten.{strung, body_steps, under_steps, opening_steps, closing_steps}
 use Rattle.plain_program.proofs.Joined.{steps_of-joined}
 
 -- nothing behind a list

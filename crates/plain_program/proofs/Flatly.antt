@@ -7,7 +7,7 @@ use Rattle.lisp_program.specs.Forms.{Forms, forms_of as core_forms_of}
 use Rattle.lisp_program.specs.declared.form.FormNode.{FormNode}
 use Rattle.plain_program.specs.Forms.{forms_of}
 use Rattle.plain_program.specs.declared.form.PlainNode.{PlainNode}
-use Rattle.plain_program.specs.Nodes.{plain_node, unbuilt_from}
+use Rattle.plain_program.specs.inside.Nodes.{plain_node, unbuilt_from}
 use Rattle.plain_program.specs.Plain.{first_unbuilt, kind_or_nil, least, mapped, place_without, plain_forms, plain_kind}
 
 -- the first so many of trees of another kind

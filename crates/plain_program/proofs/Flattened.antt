@@ -9,8 +9,8 @@ use Rattle.plain_program.specs.Forms.{PlainForms, forms_of, node_in_front}
 use Rattle.plain_program.specs.Points.{Points, Done, Do, Ask, joined, body_of, points_of, table, nil}
 use Rattle.plain_program.specs.declared.steps.Step.{Step}
 use Rattle.plain_program.specs.declared.steps.Step.TheVariants.{Act, Ask as AskStep}
-use Rattle.plain_program.specs.Steps.{steps_of}
-use Rattle.plain_program.specs.Flatten.{strung, Writes, between, body_steps, under_steps, opening_steps, closing_steps}
+use Rattle.plain_program.specs.inside.Steps.{steps_of}
+use Rattle.plain_program.specs.inside.Flatten.{strung, Writes, between, body_steps, under_steps, opening_steps, closing_steps}
 use Rattle.plain_program.proofs.Closed.{append-nil, closed_steps}
 use Rattle.plain_program.proofs.Joined.{steps_of-joined}
 

@@ -2,7 +2,7 @@
 use Rattle.std.proofs.Common.{◌≡◌, ◌∷◌, ◌++◌, length, refl, ap, sym, ◌∙◌, append_assoc}
 use Rattle.plain_program.specs.Points.{Points, Done, Do, Ask, Test, Enter, joined}
 use Rattle.plain_program.specs.declared.steps.Step.TheVariants.{Act, Ask as AskStep, Test as TestStep, Enter as EnterStep, Leave as LeaveStep}
-use Rattle.plain_program.specs.Steps.{steps_of}
+use Rattle.plain_program.specs.inside.Steps.{steps_of}
 
 pub steps_of-joined : (a b : Points) → steps_of (joined a b) ≡ steps_of a ++ steps_of b
 steps_of-joined Done b = refl

@@ -1,10 +1,8 @@
 pub mod Forms
-pub mod Nodes
 pub mod Plain
 pub mod Points
 pub mod Program
 pub mod Table
-pub mod Steps
-pub mod Flatten
+pub mod inside
 pub use Rattle.lisp_base.specs.Forest
 pub use Rattle.lisp_base.specs.Value

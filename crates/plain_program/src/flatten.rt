@@ -1,8 +1,8 @@
 ghost use Rattle.std.specs.Prelude.{◌≡◌, ◌++◌, ◌∷◌, [], ◌+◌, ◌<◌, ◌≤◌, false, drop, length, OnOk, IfOk};
 ghost use Rattle.plain_program.specs.Forms.{forms_of};
 ghost use Rattle.plain_program.specs.Points.{main_points, nil};
-ghost use Rattle.plain_program.specs.Steps.{steps_of};
-ghost use Rattle.plain_program.specs.Flatten.{Writes, strung, body_steps, under_steps, between};
+ghost use Rattle.plain_program.specs.inside.Steps.{steps_of};
+ghost use Rattle.plain_program.specs.inside.Flatten.{Writes, strung, body_steps, under_steps, between};
 
 use crate::act::{Act, Question};
 use crate::form::{PlainKind, PlainNode};

@@ -1,6 +1,6 @@
 //! A form's own steps, before those of the forms under it and after them.
 ghost use Rattle.std.specs.Prelude.{◌≡◌, ◌++◌, ◌∷◌, [], ◌+◌, ◌<◌, ◌≤◌, take, length, OnOk};
-ghost use Rattle.plain_program.specs.Flatten.{opening_steps, closing_steps};
+ghost use Rattle.plain_program.specs.inside.Flatten.{opening_steps, closing_steps};
 
 use crate::act::{Act, Opening, Question};
 use crate::form::{PlainKind, PlainNode};

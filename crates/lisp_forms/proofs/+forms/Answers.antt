@@ -5,14 +5,14 @@ use Rattle.lisp_program.specs.declared.form.CoreKind.TheVariants.{Catch, Clause,
 use Rattle.lisp_program.specs.declared.form.CoreKind.TheVariants as k
 use Rattle.lisp_data.specs.Data.{behind, count_of}
 use Rattle.form_shapes.specs.Bindings.{bound_in}
-use Rattle.form_shapes.specs.Contexts.{scope_at, with_opened}
+use Rattle.form_shapes.specs.inside.Contexts.{scope_at, with_opened}
 use Rattle.form_shapes.specs.Keywords.{parts_of}
-use Rattle.form_shapes.specs.One.{bound_by, let_variables}
+use Rattle.form_shapes.specs.inside.One.{bound_by, let_variables}
 use Rattle.form_shapes.specs.Scopes.{Scope}
-use Rattle.form_shapes.specs.Sizes.{size_of}
+use Rattle.form_shapes.specs.inside.Sizes.{size_of}
 use Rattle.form_shapes.specs.declared.keywords.Roles.TheVariants.{Values}
 use Rattle.lisp_forms.specs.Expansion.{forms_in, list_form, parts_in}
-use Rattle.lisp_forms.specs.Flat.{flat_one}
+use Rattle.lisp_forms.specs.inside.Flat.{flat_one}
 use Rattle.lisp_forms.proofs.+forms.Goals.{expand::push_by_roles-in-Value, expand::push_by_roles-in-Place, expand::push_by_roles-in-Skipped, bodies::push_bound_clause-then-has, bodies::push_bound_clause-else-has}
 use Rattle.lisp_forms.proofs.Bodied.{body_form, clause-is, front_form, joined_form, lexical_clause, special_clause, under_form}
 use Rattle.lisp_forms.proofs.Functions.{lambda_steps}

@@ -3,11 +3,11 @@ use Rattle.lisp_base.proofs.Writing.{Writes}
 use Rattle.lisp_data.specs.Data.{NoData, count_of}
 use Rattle.lisp_data.specs.First.{with_first}
 use Rattle.form_shapes.specs.Bindings.{bound_in}
-use Rattle.form_shapes.specs.Contexts.{scope_at, with_opened}
-use Rattle.form_shapes.specs.Sizes.{size_of}
+use Rattle.form_shapes.specs.inside.Contexts.{scope_at, with_opened}
+use Rattle.form_shapes.specs.inside.Sizes.{size_of}
 use Rattle.lisp_forms.specs.Expansion.{by_roles, clauses_in, conds_in, forms_in, ors_in, pairs_in, values_in}
-use Rattle.lisp_forms.specs.Flat.{flat, flat_one}
-use Rattle.lisp_forms.specs.Written.{and_front, turn_nodes}
+use Rattle.lisp_forms.specs.inside.Flat.{flat, flat_one}
+use Rattle.lisp_forms.specs.inside.Written.{and_front, turn_nodes}
 use Rattle.lisp_forms.proofs.+forms.Given as goal
 
 -- each call has fewer data left, or is a part of its caller's work on the same data

@@ -1,5 +1,5 @@
 use Rattle.std.proofs.Common.{◌≡◌, ◌+◌, ◌++◌, length}
-use Rattle.form_evaluator.specs.Running.{shown_forms}
+use Rattle.form_evaluator.specs.inside.Running.{shown_forms}
 use Rattle.form_evaluator.proofs.run.open_forms.Given as goal
 
 abbrev pub invariant-loop-frame : goal.invariant-loop-frame

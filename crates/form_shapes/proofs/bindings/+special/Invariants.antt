@@ -2,7 +2,7 @@ use Rattle.std.proofs.Common.{◌≡◌, ◌+◌, ◌*◌, ◌≤◌}
 use Rattle.lisp_data.specs.Data.{NoData}
 use Rattle.lisp_data.specs.First.{with_first}
 use Rattle.form_shapes.specs.Bindings
-use Rattle.form_shapes.specs.Sizes.{size_of}
+use Rattle.form_shapes.specs.inside.Sizes.{size_of}
 use Rattle.form_shapes.proofs.bindings.+special.Given as goal
 
 -- each call has fewer data left, or is a part of its caller's work on the same data

@@ -1,6 +1,6 @@
 use Rattle.std.proofs.Common.{◌≡◌, ◌≤◌}
 use Rattle.form_shapes.specs.Bindings
-use Rattle.form_shapes.specs.Sizes.{size_of}
+use Rattle.form_shapes.specs.inside.Sizes.{size_of}
 use Rattle.form_shapes.proofs.bindings.body_of.Given as goal
 
 -- the forms of what is left are those of all, and what is left is no larger

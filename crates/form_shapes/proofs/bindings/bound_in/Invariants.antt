@@ -1,6 +1,6 @@
 use Rattle.std.proofs.Common.{◌≡◌}
 use Rattle.form_shapes.specs.Bindings.{bound_in}
-use Rattle.form_shapes.specs.Sizes.{size_of}
+use Rattle.form_shapes.specs.inside.Sizes.{size_of}
 use Rattle.form_shapes.proofs.Bound.{behind_these}
 use Rattle.form_shapes.proofs.bindings.bound_in.Given as goal
 

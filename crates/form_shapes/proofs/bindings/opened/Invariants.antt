@@ -1,6 +1,6 @@
 use Rattle.std.proofs.Common.{◌≡◌, drop}
 use Rattle.form_shapes.specs.Bindings
-use Rattle.form_shapes.specs.Contexts.{scope_in, with_opened}
+use Rattle.form_shapes.specs.inside.Contexts.{scope_in, with_opened}
 use Rattle.form_shapes.proofs.bindings.opened.Given as goal
 
 -- what the variables that are left open in what is open so far is all

@@ -1,5 +1,5 @@
 use Rattle.std.proofs.Common.{◌∙◌, refl}
-use Rattle.form_shapes.specs.Contexts.{scope_in, with_opened}
+use Rattle.form_shapes.specs.inside.Contexts.{scope_in, with_opened}
 use Rattle.form_shapes.proofs.Openings.{received_next}
 use Rattle.form_shapes.proofs.bindings.received.Goals as goal
 

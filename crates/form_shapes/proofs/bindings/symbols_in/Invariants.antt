@@ -1,6 +1,6 @@
 use Rattle.std.proofs.Common.{◌≡◌}
 use Rattle.form_shapes.specs.Bindings.{symbols_in}
-use Rattle.form_shapes.specs.Sizes.{size_of}
+use Rattle.form_shapes.specs.inside.Sizes.{size_of}
 use Rattle.form_shapes.proofs.Bound.{behind_these}
 use Rattle.form_shapes.proofs.bindings.symbols_in.Given as goal
 

@@ -1,5 +1,5 @@
 use Rattle.std.proofs.Common.{◌∙◌, ap}
-use Rattle.form_shapes.specs.Contexts.{scope_in}
+use Rattle.form_shapes.specs.inside.Contexts.{scope_in}
 use Rattle.form_shapes.specs.Scopes
 use Rattle.form_shapes.proofs.scope.opened_with.Goals as goal
 

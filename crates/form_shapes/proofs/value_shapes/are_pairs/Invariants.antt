@@ -1,6 +1,6 @@
 use Rattle.std.proofs.Common.{◌≡◌}
 use Rattle.form_shapes.specs.Shapes
-use Rattle.form_shapes.specs.Sizes.{size_of}
+use Rattle.form_shapes.specs.inside.Sizes.{size_of}
 use Rattle.form_shapes.proofs.value_shapes.are_pairs.Given as goal
 
 -- what is left says whether all are pairs

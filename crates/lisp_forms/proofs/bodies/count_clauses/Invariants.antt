@@ -2,7 +2,7 @@ use Rattle.std.proofs.Common.{◌≡◌, ℕ, ◌+◌, ◌^◌, ◌-◌, ◌≤�
 use Rattle.lisp_base.specs.Forest.{count_of}
 use Rattle.lisp_data.specs.Data.{count_of as data_in}
 use Rattle.form_shapes.specs.Scopes.{Scope}
-use Rattle.form_shapes.specs.Sizes.{size_of}
+use Rattle.form_shapes.specs.inside.Sizes.{size_of}
 use Rattle.lisp_forms.specs.Expansion.{clauses_in}
 use Rattle.lisp_forms.proofs.bodies.count_clauses.Given as goal
 

@@ -1,5 +1,5 @@
 use Rattle.std.proofs.Common.{◌≡◌, ◌∙◌}
-use Rattle.lisp_forms.specs.Flat.{flat}
+use Rattle.lisp_forms.specs.inside.Flat.{flat}
 use Rattle.lisp_forms.specs.Program.{expansion_of}
 use Rattle.lisp_forms.proofs.Expands.{expands, expansion-nodes, main_whole}
 use Rattle.lisp_forms.proofs.expander.expand.Goals as goal

@@ -1,7 +1,7 @@
 use Rattle.std.proofs.Common.{drop}
 use Rattle.lisp_base.proofs.Writing.{Writes}
-use Rattle.form_shapes.specs.Contexts.{scope_at}
-use Rattle.lisp_forms.specs.Written.{bind_nodes}
+use Rattle.form_shapes.specs.inside.Contexts.{scope_at}
+use Rattle.lisp_forms.specs.inside.Written.{bind_nodes}
 use Rattle.lisp_forms.proofs.Binds.{binds_from}
 use Rattle.lisp_forms.proofs.lets.push_binds.Given as goal
 

@@ -1,5 +1,5 @@
 use Rattle.std.proofs.Common.{◌∙◌, ap}
-use Rattle.form_shapes.specs.Contexts.{scope_at}
+use Rattle.form_shapes.specs.inside.Contexts.{scope_at}
 use Rattle.form_shapes.specs.Scopes.{Scope, deeper, inside}
 use Rattle.form_shapes.specs.declared.levels.Level.TheVariants.{Block}
 use Rattle.lisp_forms.proofs.loops.opened_turns.Goals as goal

@@ -1,6 +1,6 @@
 use Rattle.lisp_base.specs.Writing.{Wrote}
 use Rattle.form_shapes.specs.declared.expanded.Expanded.TheVariants.{Form}
-use Rattle.lisp_forms.specs.Flat.{node, repeated}
+use Rattle.lisp_forms.specs.inside.Flat.{node, repeated}
 use Rattle.lisp_forms.proofs.nodes.push_forms.Given as goal
 
 -- so many are written

@@ -1,6 +1,6 @@
 use Rattle.std.proofs.Common.{drop}
 use Rattle.lisp_base.proofs.Writing.{Writes}
-use Rattle.lisp_forms.specs.Written.{special_nodes}
+use Rattle.lisp_forms.specs.inside.Written.{special_nodes}
 use Rattle.lisp_forms.proofs.special.push_specials.Given as goal
 
 -- those so far, with those that are left, are all

@@ -1,5 +1,5 @@
 use Rattle.std.proofs.Common.{◌≡◌, ◌++◌, ◌+◌, ◌*◌, ◌≤◌, ◌^◌, drop}
-use Rattle.lisp_forms.specs.Written.{cores_in}
+use Rattle.lisp_forms.specs.inside.Written.{cores_in}
 use Rattle.lisp_forms.proofs.split.core_forms.Given as goal
 
 -- those so far, with those of what is left, are all

@@ -1,8 +1,8 @@
 use Rattle.std.proofs.Common.{Some, [], drop}
 use Rattle.lisp_base.proofs.Writing.{Writes}
-use Rattle.form_shapes.specs.Contexts.{scope_at}
-use Rattle.lisp_forms.specs.Known.{known_as}
-use Rattle.lisp_forms.specs.Flat.{flat}
+use Rattle.form_shapes.specs.inside.Contexts.{scope_at}
+use Rattle.lisp_forms.specs.inside.Known.{known_as}
+use Rattle.lisp_forms.specs.inside.Flat.{flat}
 use Rattle.lisp_forms.specs.Program
 use Rattle.lisp_forms.proofs.top.expansion.Given as goal
 

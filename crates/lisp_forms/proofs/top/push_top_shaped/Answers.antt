@@ -1,4 +1,4 @@
-use Rattle.form_shapes.specs.Contexts.{scope_at}
+use Rattle.form_shapes.specs.inside.Contexts.{scope_at}
 use Rattle.lisp_forms.proofs.Tops.{written_otherwise}
 use Rattle.lisp_forms.proofs.top.push_top_shaped.Goals as goal
 

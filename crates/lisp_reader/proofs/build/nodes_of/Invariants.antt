@@ -1,5 +1,5 @@
 use Rattle.std.proofs.Common.{◌≡◌, reverse}
-use Rattle.lisp_reader.specs.Build.{built}
+use Rattle.lisp_reader.specs.inside.Build.{built}
 use Rattle.lisp_reader.proofs.build.nodes_of.Given as goal
 
 abbrev pub invariant-loop-mark : goal.invariant-loop-mark

@@ -1,8 +1,8 @@
 use Rattle.std.proofs.Common.{arith, subst}
 use Rattle.lisp_reader.specs.declared.scan.Scanned.TheVariants.{Found}
-use Rattle.lisp_reader.specs.Marking.{IsRefusalOf}
+use Rattle.lisp_reader.specs.inside.Marking.{IsRefusalOf}
 use Rattle.lisp_reader.specs.Parts.{parts_of}
-use Rattle.lisp_reader.specs.Scanning.{IsScanned}
+use Rattle.lisp_reader.specs.inside.Scanning.{IsScanned}
 use Rattle.lisp_reader.specs.Tables.{tables_of}
 use Rattle.lisp_reader.proofs.Gathers.{goes_part, marked_end, refused_end, refused_part}
 use Rattle.lisp_reader.proofs.Leaves.{passed_on}

@@ -1,5 +1,5 @@
 use Rattle.std.proofs.Common.{length}
-use Rattle.lisp_session.specs.Ends.{IsSending}
+use Rattle.lisp_session.specs.inside.Ends.{IsSending}
 use Rattle.lisp_session.proofs.output.send.Given as goal
 
 abbrev pub invariant-loop-alloc : goal.invariant-loop-alloc

@@ -1,4 +1,4 @@
-use Rattle.lisp_session.specs.Ends.{has_answer}
+use Rattle.lisp_session.specs.inside.Ends.{has_answer}
 use Rattle.lisp_session.proofs.top.answer.Goals as goal
 
 pub returns-in-Ok : goal.returns-in-Ok

@@ -1,5 +1,5 @@
 use Rattle.std.proofs.Common.{refl, sym}
-use Rattle.lisp_session.specs.Ends.{is_stopped}
+use Rattle.lisp_session.specs.inside.Ends.{is_stopped}
 use Rattle.lisp_session.proofs.Answered.{no_words, some_words}
 use Rattle.lisp_session.proofs.Promised.{keeps_all, read_ends, unread_ends}
 use Rattle.lisp_session.proofs.top.call.Goals as goal

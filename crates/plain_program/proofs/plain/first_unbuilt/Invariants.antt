@@ -1,5 +1,5 @@
 use Rattle.std.proofs.Common.{◌≡◌, None, drop}
-use Rattle.plain_program.specs.Nodes.{unbuilt_from}
+use Rattle.plain_program.specs.inside.Nodes.{unbuilt_from}
 use Rattle.plain_program.proofs.plain.first_unbuilt.Given as goal
 
 -- the least place so far, with the forms that are left

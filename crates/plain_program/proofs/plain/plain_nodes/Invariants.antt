@@ -1,5 +1,5 @@
 use Rattle.std.proofs.Common.{◌≡◌, map, take}
-use Rattle.plain_program.specs.Nodes.{plain_node}
+use Rattle.plain_program.specs.inside.Nodes.{plain_node}
 use Rattle.plain_program.proofs.plain.plain_nodes.Given as goal
 
 -- the nodes so far are those of the forms so far

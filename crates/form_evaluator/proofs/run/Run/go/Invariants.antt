@@ -1,5 +1,5 @@
 use Rattle.plain_program.specs.Program.{PlainProgram}
-use Rattle.form_evaluator.specs.Running.{Ran}
+use Rattle.form_evaluator.specs.inside.Running.{Ran}
 use Rattle.form_evaluator.proofs.run.Run.go.Given as goal
 
 abbrev pub invariant-loop-turn : goal.invariant-loop-turn

@@ -1,6 +1,6 @@
 use Rattle.std.proofs.Common.{ap, sym, ◌∙◌}
 use Rattle.lisp_data.specs.Data.{AreItems, data_of}
-use Rattle.lisp_data.specs.DataCode.{data_back}
+use Rattle.lisp_data.specs.inside.DataCode.{data_back}
 use Rattle.lisp_data.proofs.Beside.{one_item}
 use Rattle.lisp_data.proofs.items.Items.of.Goals as goal
 

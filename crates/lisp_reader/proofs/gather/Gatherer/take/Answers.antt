@@ -1,6 +1,6 @@
 use Rattle.std.proofs.Common.{ap, sym, ◌∙◌}
 use Rattle.lisp_reader.specs.Parts.{Opens, Closes, Quotes, Literal, Token'}
-use Rattle.lisp_reader.specs.Scanning.{part_of}
+use Rattle.lisp_reader.specs.inside.Scanning.{part_of}
 use Rattle.lisp_reader.specs.Tables.{tables_of}
 use Rattle.lisp_reader.proofs.Leaves.{refused_as}
 use Rattle.lisp_reader.proofs.gather.Gatherer.take.Goals as goal

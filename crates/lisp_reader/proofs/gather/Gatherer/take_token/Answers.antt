@@ -1,6 +1,6 @@
 use Rattle.std.proofs.Common.{◌∙◌, inr}
 use Rattle.lisp_reader.specs.declared.refusal.ReadRefusal.TheVariants.{Memory}
-use Rattle.lisp_reader.specs.Marking.{RefusedPart}
+use Rattle.lisp_reader.specs.inside.Marking.{RefusedPart}
 use Rattle.lisp_reader.specs.Parts.{Token'}
 use Rattle.lisp_reader.specs.Tables.{tables_of}
 use Rattle.lisp_reader.proofs.Leaves.{leaf_used, passed_on, token_taken}

@@ -20,7 +20,7 @@ use Rattle.run_semantics.specs.Over.{can_step}
 use Rattle.form_evaluator.specs.declared.run.Run.{Run}
 use Rattle.form_evaluator.specs.declared.evaluator.OpenFrame.{OpenFrame}
 use Rattle.form_evaluator.specs.declared.evaluator.Evaluator.{Evaluator}
-use Rattle.form_evaluator.specs.Evaluator.{Stands}
+use Rattle.form_evaluator.specs.inside.Evaluator.{Stands}
 
 -- After `taken` points the entries so far are legal and lead to main at `start`; local points alone led from there
 -- to `present`, for which the evaluator stands.

@@ -27,7 +27,7 @@ use Rattle.form_evaluator.specs.declared.evaluator.Doing.{Doing}
 use Rattle.form_evaluator.specs.declared.evaluator.Doing.TheVariants.{Running, Leaving, Over}
 use Rattle.form_evaluator.specs.declared.evaluator.OpenFrame.{OpenFrame}
 use Rattle.form_evaluator.specs.declared.evaluator.Evaluator.{Evaluator}
-use Rattle.form_evaluator.specs.Lists.{front_of}
+use Rattle.form_evaluator.specs.inside.Lists.{front_of}
 
 -- it leaves to the base, to end so
 abbrev pub left_to : Ending → Evaluator → Evaluator

@@ -9,7 +9,7 @@ use Rattle.lisp_reader.specs.declared.build.Partial.{Partial}
 use Rattle.lisp_reader.specs.declared.gather.Mark.{Mark}
 use Rattle.lisp_reader.specs.declared.gather.MarkKind.{MarkKind}
 use Rattle.lisp_reader.specs.declared.gather.MarkKind.TheVariants.{Open, Close, Quote, ALeaf}
-use Rattle.lisp_reader.specs.Stack.{top_of, below}
+use Rattle.lisp_reader.specs.inside.Stack.{top_of, below}
 
 -- a list of so many items, after which so many nodes stand
 abbrev pub partial : ℕ → ℕ → Partial

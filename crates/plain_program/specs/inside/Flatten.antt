@@ -11,7 +11,7 @@ use Rattle.plain_program.specs.Forms.{forms_of}
 use Rattle.plain_program.specs.Points.{Points, body_of, points_of}
 use Rattle.plain_program.specs.declared.steps.Step.{Step}
 use Rattle.plain_program.specs.declared.steps.Step.TheVariants.{Act, Ask, Test, Enter, Leave}
-use Rattle.plain_program.specs.Steps.{steps_of}
+use Rattle.plain_program.specs.inside.Steps.{steps_of}
 
 -- the steps of forms in turn; between two forms of a body the value of the first is discarded
 abbrev pub strung : Bool → List Points → List Step

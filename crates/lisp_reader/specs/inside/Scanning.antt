@@ -1,20 +1,16 @@
 -- How one part is scanned at a place of a text.
 use Rattle.std.specs.Prelude.{◌≡◌, ℕ, ◌<◌, ◌≤◌, List, ◌∷◌, Bool, not, ◌||◌, ◌==◌, length, take, drop, string_bytes}
+use Rattle.lisp_base.specs.Bytes.{newline}
 use Rattle.std.specs.Str.{IsUtf8}
 use Rattle.lisp_reader.specs.declared.scan.PartKind.{PartKind}
 use Rattle.lisp_reader.specs.declared.scan.PartKind.TheVariants.{Open, Close, Quote, Text, OpenText, Token}
 use Rattle.lisp_reader.specs.declared.scan.Scanned.{Scanned}
 use Rattle.lisp_reader.specs.declared.scan.Scanned.TheVariants.{Blank, Found}
 use Rattle.lisp_reader.specs.Parts.{Between, Part, Opens, Closes, Quotes, Literal, OpenLiteral, Token', parts_from}
-use Rattle.lisp_reader.specs.Parts.{is_separator}
-
--- a byte that may belong to a token
-abbrev pub is_token_letter : ℕ → Bool
-is_token_letter b = not (is_separator b || (b == 59) || (b == 34) || (b == 40) || (b == 41) || (b == 39))
 
 -- a byte that does not end its line
 abbrev pub is_on_line : ℕ → Bool
-is_on_line b = not (b == 10)
+is_on_line b = not (b == newline)
 
 -- the part of this kind that begins at a place of a text; a token has so many letters
 abbrev pub part_of : List ℕ → ℕ → PartKind → Part

@@ -18,7 +18,7 @@ use Rattle.form_shapes.specs.Bindings.{bound_in_list, opened_by}
 use Rattle.form_shapes.specs.Scopes.{Scope, has, leaf_symbol}
 use Rattle.lisp_forms.specs.declared.locks.Lock.{Lock}
 use Rattle.lisp_forms.specs.Expansion.{behind_variable, by_roles, is_none}
-use Rattle.lisp_forms.specs.Flat.{flat, flat_one, node}
+use Rattle.lisp_forms.specs.inside.Flat.{flat, flat_one, node}
 use Rattle.lisp_forms.specs.Program.{core_kind, with_function}
 use Rattle.lisp_forms.specs.Blocks.{is_function, is_return_to, lowered_kind}
 use Rattle.lisp_forms.specs.Rows.{bind_kind, release_form}

@@ -1,0 +1,4 @@
+-- What only proofs use.
+pub mod One
+pub mod Contexts
+pub mod Sizes

@@ -1,0 +1,5 @@
+-- What only proofs use.
+pub mod Firsts
+pub mod Known
+pub mod Flat
+pub mod Written

@@ -1,0 +1,4 @@
+-- What only proofs use.
+pub mod Nodes
+pub mod Steps
+pub mod Flatten
