@@ -419,6 +419,17 @@ report 1\nthread 0 "main thread" returned 3 points 5\nstatus 0\nend'
     try_real_refusals
 }
 
+# Each example stands as it is in the table of runs of session_tests.
+try_examples() {
+    local table file stands
+    table=$(<"$top/crates/session_tests/src/examples.rt")
+    for file in "$top"/examples/*.lisp; do
+        stands=no
+        [[ $table != *"$(<"$file")"$'\n=> '* ]] || stands=yes
+        compare "${file##*/} stands in the table of runs" yes "$stands"
+    done
+}
+
 try_first_build
 try_builds_again
 try_builds_that_fail
@@ -431,6 +442,7 @@ try_output
 try_places
 try_long_lines
 try_meanings
+try_examples
 if [ -x "$top/crates/lisp_run/out/lisp_run" ]; then
     try_real
 else
