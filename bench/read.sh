@@ -2,7 +2,7 @@
 # How long lisp_run takes to read, expand and judge long texts, and how much memory: numbers at top level, lists nested 256 deep
 # again and again, mixed program text of forms that are run, and mixed text of forms of all kinds, which is judged whole and then
 # refused as not built; of 100,000 and of 1,000,000 bytes. The time of the empty text is taken off. Each time is the least of five
-# runs.
+# runs. Where SBCL is installed, the time of its `read` for the longer text stands beside.
 set -eu
 top=$(cd "$(dirname "${BASH_SOURCE[0]}")/.." && pwd)
 work=$(mktemp -d)
@@ -108,8 +108,20 @@ for size in (100_000, 1_000_000):
 open(f"{work}/empty", "w").close()
 PY
 
+# The same texts, read by SBCL's `read`, which only makes data of them.
+cat >"$work/read.lisp" <<'LISP'
+(let ((least nil))
+  (dotimes (turn 5)
+    (let ((start (get-internal-real-time)))
+      (with-open-file (text (second sb-ext:*posix-argv*))
+        (loop until (eq (read text nil :eof) :eof)))
+      (let ((taken (- (get-internal-real-time) start)))
+        (when (or (null least) (< taken least)) (setf least taken)))))
+  (format t "~,1f" (/ (* 1000.0 least) internal-time-units-per-second)))
+LISP
+
 python3 - "$program" "$work" <<'PY'
-import os, resource, subprocess, sys, time
+import os, shutil, subprocess, sys, time
 program, work = sys.argv[1:]
 
 def run(name):
@@ -129,5 +141,9 @@ for kind in ("numbers", "nested", "mixed", "whole"):
     short, _ = run(f"{kind}-100000")
     long, peak = run(f"{kind}-1000000")
     ratio = (long - empty) / max(short - empty, 1e-9)
-    print(f"{kind}: 100,000 bytes {(short - empty) * 1000:.1f} ms, 1,000,000 bytes {(long - empty) * 1000:.1f} ms, ratio {ratio:.1f}, peak {peak / 1024:.0f} MiB")
+    read = ""
+    if shutil.which("sbcl"):
+        taken = subprocess.run(["sbcl", "--script", f"{work}/read.lisp", f"{work}/{kind}-1000000"], stdout=subprocess.PIPE, check=True)
+        read = f", SBCL's read {taken.stdout.decode()} ms"
+    print(f"{kind}: 100,000 bytes {(short - empty) * 1000:.1f} ms, 1,000,000 bytes {(long - empty) * 1000:.1f} ms, ratio {ratio:.1f}, peak {peak / 1024:.0f} MiB{read}")
 PY
