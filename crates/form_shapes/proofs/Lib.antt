@@ -2,6 +2,7 @@ pub mod Odd
 pub mod Bound
 pub mod Counted
 pub mod Served
+pub mod Operators
 pub mod Numbers
 pub mod Openings
 pub mod Counts

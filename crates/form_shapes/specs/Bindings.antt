@@ -2,6 +2,8 @@
 use Rattle.std.specs.Prelude.{ℕ, List, [], ◌∷◌, Bool, true, false, ◌&&◌, ◌||◌, not, Option, Some, None, if◌then◌else◌, nat_lt, length, codes, unwrap_or}
 use Rattle.std.specs.List.{list_all}
 use Rattle.std.specs.Str.{bytes_eq}
+use Rattle.lisp_base.specs.declared.refusal.Refusal.{Refusal}
+use Rattle.lisp_base.specs.declared.refusal.Refusal.TheVariants.{BadForm, DefinedTwice, TooMany}
 use Rattle.lisp_data.specs.Data.{Data, NoData, Atom, Listed, behind, count_of}
 use Rattle.lisp_data.specs.declared.datum.Leaf.{Leaf}
 use Rattle.lisp_data.specs.declared.datum.Leaf.TheVariants.{Int, Symbol, Text, Time}
@@ -65,16 +67,16 @@ are_different [] = true
 are_different (x ∷ xs) = not (has xs x) && are_different xs
 
 -- the fault that these variables have: a constant among them, too many, or one that is there twice
-abbrev pub variables_fault : List (List ℕ) → List ℕ → Option ℕ
+abbrev pub variables_fault : List (List ℕ) → List ℕ → Option Refusal
 variables_fault names xs =
-    if not (list_all (is_variable_name names) xs) then Some 12
-    else if nat_lt most (length xs) then Some 17
-    else if not (are_different xs) then Some 18
+    if not (list_all (is_variable_name names) xs) then Some BadForm
+    else if nat_lt most (length xs) then Some TooMany
+    else if not (are_different xs) then Some DefinedTwice
     else None
 
 -- the fault of what may be a list of variables
-abbrev pub list_fault : List (List ℕ) → Option (List ℕ) → Option ℕ
-list_fault names None = Some 12
+abbrev pub list_fault : List (List ℕ) → Option (List ℕ) → Option Refusal
+list_fault names None = Some BadForm
 list_fault names (Some xs) = variables_fault names xs
 
 -- the list, or the empty list where there is none

@@ -1,6 +1,9 @@
 -- What stands in a function's place.
 use Rattle.std.specs.Prelude.{ℕ, List, [], ◌&&◌, ◌==◌, Option, Some, None, if◌then◌else◌, nat_lt, codes}
 use Rattle.lisp_base.specs.declared.id.FunctionName.TheVariants.{Named}
+use Rattle.lisp_base.specs.Refusals.{are_same, refusal_number}
+use Rattle.lisp_base.specs.declared.refusal.Refusal.{Refusal}
+use Rattle.lisp_base.specs.declared.refusal.Refusal.TheVariants.{BadForm, DefinedTwice, FunctionPlace, UnknownOperator}
 use Rattle.lisp_program.specs.declared.form.CoreKind.TheVariants.{Function as FunctionForm}
 use Rattle.lisp_data.specs.Data.{Data, NoData, Atom, Listed, behind, count_of}
 use Rattle.form_shapes.specs.declared.operator.Operator.{Operator}
@@ -15,40 +18,41 @@ use Rattle.form_shapes.specs.Bindings.{is_named, list_fault, or_none, parameters
 use Rattle.form_shapes.specs.Scopes.{Scope, first_symbol, has, leaf_symbol, operator_at, with_open}
 use Rattle.form_shapes.specs.Shapes.{shape_of}
 
--- A form that may not stand here is refused with 14, or with the lesser number with which it would be refused elsewhere.
-abbrev pub misplaced_number : ℕ → ℕ
-misplaced_number number = if nat_lt number 14 then number else 14
+-- A form that may not stand here is refused with `FunctionPlace`, or with what it would be refused for elsewhere, where that has the
+-- lesser number.
+abbrev pub misplaced_refusal : Refusal → Refusal
+misplaced_refusal refusal = if nat_lt (refusal_number refusal) (refusal_number FunctionPlace) then refusal else FunctionPlace
 
 -- the refusal of a form that may not stand here, by what would stand for it elsewhere
 abbrev pub misplaced_kind : Expanded → Expanded
-misplaced_kind (Form kind) = Refused 14
-misplaced_kind (Lambda parameters) = Refused 14
-misplaced_kind (Defun f parameters) = Refused 14
-misplaced_kind (Refused number) = Refused (misplaced_number number)
-misplaced_kind (RefusedFunction number) = Refused (misplaced_number number)
+misplaced_kind (Form kind) = Refused FunctionPlace
+misplaced_kind (Lambda parameters) = Refused FunctionPlace
+misplaced_kind (Defun f parameters) = Refused FunctionPlace
+misplaced_kind (Refused refusal) = Refused (misplaced_refusal refusal)
+misplaced_kind (RefusedFunction refusal) = Refused (misplaced_refusal refusal)
 
 -- the refusal of a list of this shape that may not stand here, at a place
 abbrev pub misplaced_shape : ℕ → Shape → Expanded
-misplaced_shape p (shape.Wrong number q) = if q == p then Refused (misplaced_number number) else Refused 14
+misplaced_shape p (shape.Wrong refusal q) = if q == p then Refused (misplaced_refusal refusal) else Refused FunctionPlace
 misplaced_shape p (shape.Leaf kind) = misplaced_kind kind
-misplaced_shape p _ = Refused 14
+misplaced_shape p _ = Refused FunctionPlace
 
 -- a `lambda` whose parameters have this fault or none; where the fault is only that two are the same, it counts as a function
-abbrev pub lambda_placed : Option ℕ → Placed
+abbrev pub lambda_placed : Option Refusal → Placed
 lambda_placed None = Made
-lambda_placed (Some number) = Other (if number == 18 then RefusedFunction 18 else Refused number)
+lambda_placed (Some refusal) = Other (if are_same refusal DefinedTwice then RefusedFunction DefinedTwice else Refused refusal)
 
 -- `#'` of what may be the name of a function
 abbrev pub name_placed : Scope → Option ℕ → Placed
-name_placed s None = Other (Refused 12)
-name_placed s (Some x) = Other (if has s.functions x then Form (FunctionForm (Named x)) else Refused 11)
+name_placed s None = Other (Refused BadForm)
+name_placed s (Some x) = Other (if has s.functions x then Form (FunctionForm (Named x)) else Refused UnknownOperator)
 
 -- `#'` of these data: of a name, or of a `lambda`, which stands for itself
 abbrev pub function_placed : Scope → Data → Placed
-function_placed s NoData = Other (Refused 12)
-function_placed s (Atom leaf q beside) = if count_of beside == 0 then name_placed s (leaf_symbol leaf) else Other (Refused 12)
+function_placed s NoData = Other (Refused BadForm)
+function_placed s (Atom leaf q beside) = if count_of beside == 0 then name_placed s (leaf_symbol leaf) else Other (Refused BadForm)
 function_placed s (Listed q under beside) =
-    if (count_of beside == 0) && is_named s.names (codes "LAMBDA") (first_symbol under) then Inner else Other (Refused 12)
+    if (count_of beside == 0) && is_named s.names (codes "LAMBDA") (first_symbol under) then Inner else Other (Refused BadForm)
 
 -- what a list with this operator is in a function's place
 abbrev pub placed_by : Scope → ℕ → Option Operator → Data → Placed

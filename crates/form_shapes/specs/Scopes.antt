@@ -4,6 +4,7 @@ use Rattle.std.specs.List.{list_any}
 use Rattle.lisp_base.specs.Value.{is_in_range}
 use Rattle.lisp_base.specs.declared.value.Node.{Node}
 use Rattle.lisp_base.specs.declared.value.Node.TheVariants.{Int as AnInt, Symbol as ASymbol, Text as AText, Time as ATime}
+use Rattle.lisp_base.specs.declared.refusal.Refusal.TheVariants.{BadForm, UnknownVariable}
 use Rattle.lisp_program.specs.declared.form.CoreKind.{CoreKind}
 use Rattle.lisp_program.specs.declared.form.CoreKind.TheVariants.{Constant as ConstantForm, CurrentThread, Local as LocalForm, Special as SpecialForm, SetLocal, SetSpecial}
 use Rattle.lisp_data.specs.Data.{Data, NoData, Atom, Listed}
@@ -113,11 +114,11 @@ node_of (Time t) = ATime t
 
 -- a constant; it is refused where its number is out of range, which no number of a text is
 abbrev pub constant : Node → Expanded
-constant v = if is_in_range v then Form (ConstantForm v) else Refused 12
+constant v = if is_in_range v then Form (ConstantForm v) else Refused BadForm
 
 -- a variable as a form; where there is none the symbol is refused
 abbrev pub variable_form : Option Target → Expanded
-variable_form None = Refused 13
+variable_form None = Refused UnknownVariable
 variable_form (Some target) = Form (read_kind target)
 
 -- a symbol as a form: it stands for itself, or is the present thread, a variable, or unknown

@@ -2,6 +2,9 @@
 use Rattle.std.specs.Prelude.{ℕ, pos, List, Bool, true, false, ◌&&◌, ◌||◌, ◌==◌, not, Option, Some, None, if◌then◌else◌, nat_lt, codes}
 use Rattle.lisp_base.specs.declared.condition.Class.TheVariants.{SimpleError}
 use Rattle.lisp_base.specs.declared.value.Node.TheVariants.{Int as AnInt}
+use Rattle.lisp_base.specs.Refusals.{are_same}
+use Rattle.lisp_base.specs.declared.refusal.Refusal.{Refusal}
+use Rattle.lisp_base.specs.declared.refusal.Refusal.TheVariants.{BadForm, FunctionPlace, NoSuchBlock, RegionOutside, TooMany, UnknownOperator, UnknownVariable}
 use Rattle.lisp_program.specs.Points.{nil}
 use Rattle.lisp_program.specs.declared.form.CoreKind.{CoreKind}
 use Rattle.lisp_program.specs.declared.form.CoreKind.TheVariants as k
@@ -32,7 +35,7 @@ use Rattle.form_shapes.specs.Scopes.{Scope, as_variable, constant, first_place, 
 
 -- a list that does not have its shape
 abbrev pub bad : ℕ → Shape
-bad p = shape.Wrong 12 p
+bad p = shape.Wrong BadForm p
 
 -- a list that has this shape where the test holds, and otherwise does not have its shape
 abbrev pub where_holds : ℕ → Bool → Shape → Shape
@@ -49,13 +52,13 @@ at_least p n args s = where_holds p (not (nat_lt (count_of args) n)) s
 
 -- a list of so many items that is quoted: `()` is NIL
 abbrev pub quoted_list : ℕ → Expanded
-quoted_list n = if n == 0 then Form (k.Constant nil) else Refused 12
+quoted_list n = if n == 0 then Form (k.Constant nil) else Refused BadForm
 
 -- what is quoted: one leaf, or one list without items
 abbrev pub quoted : Data → Expanded
-quoted NoData = Refused 12
-quoted (Atom leaf p beside) = if nat_lt 0 (count_of beside) then Refused 12 else constant (node_of leaf)
-quoted (Listed p under beside) = if nat_lt 0 (count_of beside) then Refused 12 else quoted_list (count_of under)
+quoted NoData = Refused BadForm
+quoted (Atom leaf p beside) = if nat_lt 0 (count_of beside) then Refused BadForm else constant (node_of leaf)
+quoted (Listed p under beside) = if nat_lt 0 (count_of beside) then Refused BadForm else quoted_list (count_of under)
 
 -- `if` with or without its third form
 abbrev pub if_shape : ℕ → Data → Shape
@@ -80,7 +83,7 @@ setq_shape names p args = where_holds p (nat_lt 0 (count_of args) && are_pairs n
 
 -- `incf` or `decf` of a variable, which is at a place
 abbrev pub changed : ℕ → Primitive → Option Target → ℕ → Shape
-changed p f None q = shape.Wrong 13 q
+changed p f None q = shape.Wrong UnknownVariable q
 changed p f (Some target) q = shape.Change target f
 
 -- `incf` or `decf` of what may be a variable, which is at a place
@@ -94,13 +97,13 @@ change_shape s p f args =
     where_holds p ((count_of args == 1) || (count_of args == 2)) (change_of s p f (as_variable s.names (first_symbol args)) (first_place args))
 
 -- a list whose variables have this fault or none
-abbrev pub faultless : ℕ → Option ℕ → Shape → Shape
+abbrev pub faultless : ℕ → Option Refusal → Shape → Shape
 faultless p None s = s
-faultless p (Some number) s = shape.Wrong number p
+faultless p (Some refusal) s = shape.Wrong refusal p
 
 -- a special variable that is compared and swapped, which is at a place
 abbrev pub swapped : Scope → ℕ → ℕ → Shape
-swapped s x q = if has s.specials x then shape.Over (k.CompareAndSwap x) (From 1) else shape.Wrong 13 q
+swapped s x q = if has s.specials x then shape.Over (k.CompareAndSwap x) (From 1) else shape.Wrong UnknownVariable q
 
 -- a symbol with its place
 abbrev pub placed : Option ℕ → ℕ → Option (ℕ × ℕ)
@@ -147,7 +150,7 @@ block_of p (Some b) = shape.Block b
 
 -- an exit to a block with this number, if there is one, with its value, if it has one, after so many arguments
 abbrev pub exit_of : ℕ → Option ℕ → (has_value : Bool) → ℕ → Shape
-exit_of p None has_value n = shape.Wrong 16 p
+exit_of p None has_value n = shape.Wrong NoSuchBlock p
 exit_of p (Some b) true n = shape.Over (k.ReturnFrom b) (From n)
 exit_of p (Some b) false n = shape.OverNil (k.ReturnFrom b) (From n)
 
@@ -167,12 +170,12 @@ return_shape s p args = where_holds p (nat_lt (count_of args) 2) (exit_of p (num
 
 -- `allow-with-interrupts`, where what a written `without-interrupts` round it remembers has this number, if there is one
 abbrev pub allow_shape : ℕ → Option ℕ → Shape
-allow_shape p None = shape.Wrong 15 p
+allow_shape p None = shape.Wrong RegionOutside p
 allow_shape p (Some n) = shape.Body (k.AllowWithInterrupts n)
 
 -- `with-local-interrupts`, where what a written `without-interrupts` round it remembers has this number, if there is one
 abbrev pub local_shape : ℕ → Option ℕ → Shape
-local_shape p None = shape.Wrong 15 p
+local_shape p None = shape.Wrong RegionOutside p
 local_shape p (Some n) = shape.LocalInterrupts n
 
 -- `error` with a text
@@ -194,7 +197,7 @@ abbrev pub format_given : ℕ → ℕ → Option ℕ → ℕ → Shape
 format_given p x None given = bad p
 format_given p x (Some taken) given =
     if nat_lt given taken then bad p
-    else if nat_lt most given then shape.Wrong 17 p
+    else if nat_lt most given then shape.Wrong TooMany p
     else shape.Over (k.Print (printing.Format x given)) (From 2)
 
 -- `format` with this control and so many arguments
@@ -230,13 +233,13 @@ fold_of_one g = shape.Fold g
 abbrev pub fold_shape : ℕ → Primitive → Data → Shape
 fold_shape p f args =
     if count_of args == 0 then fold_of_none p f
-    else if nat_lt most (count_of args) then shape.Wrong 17 p
+    else if nat_lt most (count_of args) then shape.Wrong TooMany p
     else if count_of args == 1 then fold_of_one f
     else shape.Fold f
 
 -- a call of a function of the program
 abbrev pub call_shape : ℕ → ℕ → Data → Shape
-call_shape p x args = if nat_lt most (count_of args) then shape.Wrong 17 p else shape.Over (k.Call x) (From 0)
+call_shape p x args = if nat_lt most (count_of args) then shape.Wrong TooMany p else shape.Over (k.Call x) (From 0)
 
 -- a service with these keywords, where they have their shape
 abbrev pub served : ℕ → Service → Option Keys → Shape
@@ -264,7 +267,7 @@ serve_shape names p other args = keyed_shape names p other args
 abbrev pub handler_shape : List (List ℕ) → ℕ → Data → Shape
 handler_shape names p args =
     where_holds p (nat_lt 0 (count_of args) && are_clauses names (behind 1 args))
-    (if nat_lt most_clauses (count_of (behind 1 args)) then shape.Wrong 17 p else shape.Handler)
+    (if nat_lt most_clauses (count_of (behind 1 args)) then shape.Wrong TooMany p else shape.Handler)
 
 -- the items of the first of these, where it is a list
 abbrev pub listed_first : Data → Option Data
@@ -312,12 +315,12 @@ dotimes_of names p (Some items) =
 -- `#'` of a symbol that may be a function: outside a function's place it is misplaced
 abbrev pub named_outside : Scope → ℕ → Option ℕ → Shape
 named_outside s p None = bad p
-named_outside s p (Some x) = if has s.functions x then shape.Wrong 14 p else shape.Wrong 11 p
+named_outside s p (Some x) = if has s.functions x then shape.Wrong FunctionPlace p else shape.Wrong UnknownOperator p
 
 -- a `lambda` outside a function's place, whose parameters have this fault or none
-abbrev pub misplaced : ℕ → Option ℕ → Shape
-misplaced p None = shape.Wrong 14 p
-misplaced p (Some number) = if number == 12 then bad p else shape.Wrong 14 p
+abbrev pub misplaced : ℕ → Option Refusal → Shape
+misplaced p None = shape.Wrong FunctionPlace p
+misplaced p (Some refusal) = if are_same refusal BadForm then bad p else shape.Wrong FunctionPlace p
 
 -- a `lambda` with these arguments outside a function's place
 abbrev pub lambda_outside : ℕ → List (List ℕ) → Data → Shape
@@ -398,7 +401,7 @@ operator_led s p other args = control_led s p other args
 
 -- a list with these arguments, with this operator or none
 abbrev pub shape_led : Scope → ℕ → Option Operator → Data → Shape
-shape_led s p None args = shape.Wrong 11 p
+shape_led s p None args = shape.Wrong UnknownOperator p
 shape_led s p (Some operator) args = operator_led s p operator args
 
 -- what a list of these is, at a place

@@ -11,13 +11,13 @@ ghost use Rattle.form_shapes.specs.Scopes.{Scope};
 ghost use Rattle.form_shapes.specs.inside.Sizes.{size_of};
 
 use crate::levels::{Level, Levels};
-use crate::refusal::{BAD_FORM, DEFINED_TWICE, TOO_MANY};
 use crate::scope::{
     Context, Opened, first_symbol, has, is_named, is_variable_name, leaf_symbol, opened_in,
 };
 use crate::single::rest;
 use lisp_base::id::SymbolId;
 use lisp_base::memory::Memory;
+use lisp_base::refusal::Refusal;
 use lisp_data::datum::Leaf;
 use lisp_data::items::{First, Items};
 use std::alloc::Global;
@@ -194,27 +194,27 @@ fn are_variable_names(symbols: &Symbols, variables: &[SymbolId]) -> bool
 }
 
 /// The fault that these variables have: a constant among them, too many, or one that is there twice.
-fn variables_fault(symbols: &Symbols, variables: &[SymbolId]) -> Option<u32>
+fn variables_fault(symbols: &Symbols, variables: &[SymbolId]) -> Option<Refusal>
     ensures { result ≡ Bindings.variables_fault symbols.now variables.now }
 {
     if !are_variable_names(symbols, variables) {
-        return Some(BAD_FORM);
+        return Some(Refusal::BadForm);
     }
     if variables.len() > MOST as usize {
-        return Some(TOO_MANY);
+        return Some(Refusal::TooMany);
     }
     if !are_different(variables) {
-        return Some(DEFINED_TWICE);
+        return Some(Refusal::DefinedTwice);
     }
     None
 }
 
 /// The fault of what may be a list of variables.
-pub fn list_fault(symbols: &Symbols, variables: &Option<Vec<SymbolId>>) -> Option<u32>
+pub fn list_fault(symbols: &Symbols, variables: &Option<Vec<SymbolId>>) -> Option<Refusal>
     ensures { (told : Option (List ℕ)) → is_told variables.now told → result ≡ Bindings.list_fault symbols.now told }
 {
     match variables {
-        None => Some(BAD_FORM),
+        None => Some(Refusal::BadForm),
         Some(variables) => variables_fault(symbols, variables.as_slice()),
     }
 }

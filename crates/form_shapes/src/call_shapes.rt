@@ -6,11 +6,11 @@ use crate::bindings::MOST;
 use crate::control::{has_tilde, taken_by, text_of};
 use crate::expanded::Expanded;
 use crate::keywords::{Roles, first_key, keys_in, positional, roles_of, second_key, with_keys};
-use crate::refusal::TOO_MANY;
 use crate::scope::{Context, constant, first_symbol, is_named};
 use crate::shape::{Shape, bad, fixed};
 use lisp_base::condition::{Class, Condition};
 use lisp_base::id::{Place, SymbolId};
+use lisp_base::refusal::Refusal;
 use lisp_base::value::Node;
 use lisp_data::datum::Leaf;
 use lisp_data::items::{First, Items};
@@ -48,7 +48,7 @@ pub fn fold_shape(place: Place, function: Primitive, arguments: &Items) -> Shape
         return fold_of_none(place, function);
     }
     if count > MOST {
-        return Shape::Wrong(TOO_MANY, place);
+        return Shape::Wrong(Refusal::TooMany, place);
     }
     if count == 1 {
         return fold_of_one(function);
@@ -61,7 +61,7 @@ pub fn call_shape(place: Place, name: SymbolId, arguments: &Items) -> Shape
     ensures { result ≡ Shapes.call_shape place name arguments.now }
 {
     if arguments.count() > MOST {
-        return Shape::Wrong(TOO_MANY, place);
+        return Shape::Wrong(Refusal::TooMany, place);
     }
     Shape::Over(CoreKind::Call(name), Roles::From(0))
 }
@@ -148,7 +148,7 @@ fn format_of(context: &Context, place: Place, leaf: Leaf, given: u32) -> Shape
     match taken_by(text_of(context.texts, text)) {
         None => bad(place),
         Some(taken) if (given as usize) < taken => bad(place),
-        Some(_) if given > MOST => Shape::Wrong(TOO_MANY, place),
+        Some(_) if given > MOST => Shape::Wrong(Refusal::TooMany, place),
         Some(_) => Shape::Over(
             CoreKind::Print(Printing::Format(text, given)),
             Roles::From(2),

@@ -6,13 +6,11 @@ use crate::bindings::{list_fault, parameters_of};
 use crate::clause::{MOST_CLAUSES, are_clauses};
 use crate::keywords::{Roles, keys_in};
 use crate::levels::Level;
-use crate::refusal::{
-    BAD_FORM, FUNCTION_PLACE, NO_SUCH_BLOCK, REGION_OUTSIDE, TOO_MANY, UNKNOWN_OPERATOR,
-};
 use crate::scope::{Context, as_variable, first_symbol, has, is_named, leaf_symbol};
 use crate::shape::{Shape, bad, where_holds};
 use lisp_base::id::{Place, SymbolId};
 use lisp_base::memory::Memory;
+use lisp_base::refusal::Refusal;
 use lisp_data::items::{First, Items};
 use lisp_program::form::CoreKind;
 use std::alloc::Global;
@@ -33,7 +31,7 @@ fn exit_of(place: Place, block: Option<u32>, has_value: bool, behind: u32) -> Sh
     ensures { result ≡ Shapes.exit_of place block has_value behind }
 {
     match block {
-        None => Shape::Wrong(NO_SUCH_BLOCK, place),
+        None => Shape::Wrong(Refusal::NoSuchBlock, place),
         Some(number) if has_value => {
             Shape::Over(CoreKind::ReturnFrom(number), Roles::From(behind))
         }
@@ -75,7 +73,7 @@ pub fn allow_shape(place: Place, region: Option<u32>) -> Shape
     ensures { result ≡ Shapes.allow_shape place region }
 {
     match region {
-        None => Shape::Wrong(REGION_OUTSIDE, place),
+        None => Shape::Wrong(Refusal::RegionOutside, place),
         Some(number) => Shape::Body(CoreKind::AllowWithInterrupts(number)),
     }
 }
@@ -85,7 +83,7 @@ pub fn local_shape(place: Place, region: Option<u32>) -> Shape
     ensures { result ≡ Shapes.local_shape place region }
 {
     match region {
-        None => Shape::Wrong(REGION_OUTSIDE, place),
+        None => Shape::Wrong(Refusal::RegionOutside, place),
         Some(number) => Shape::LocalInterrupts(number),
     }
 }
@@ -100,7 +98,7 @@ pub fn handler_shape(symbols: &Symbols, place: Place, arguments: &Items) -> Shap
         return bad(place);
     }
     if count > MOST_CLAUSES {
-        return Shape::Wrong(TOO_MANY, place);
+        return Shape::Wrong(Refusal::TooMany, place);
     }
     Shape::Handler
 }
@@ -184,8 +182,8 @@ fn named_outside(context: &Context, place: Place, name: Option<SymbolId>) -> Sha
 {
     match name {
         None => bad(place),
-        Some(name) if has(context.functions, name) => Shape::Wrong(FUNCTION_PLACE, place),
-        Some(_) => Shape::Wrong(UNKNOWN_OPERATOR, place),
+        Some(name) if has(context.functions, name) => Shape::Wrong(Refusal::FunctionPlace, place),
+        Some(_) => Shape::Wrong(Refusal::UnknownOperator, place),
     }
 }
 
@@ -200,8 +198,8 @@ pub fn lambda_outside(
 {
     let parameters = parameters_of(alloc, arguments)?;
     match list_fault(symbols, &parameters) {
-        Some(BAD_FORM) => Ok(bad(place)),
-        _ => Ok(Shape::Wrong(FUNCTION_PLACE, place)),
+        Some(refusal) if refusal.is(Refusal::BadForm) => Ok(bad(place)),
+        _ => Ok(Shape::Wrong(Refusal::FunctionPlace, place)),
     }
 }
 

@@ -1,4 +1,5 @@
 use lisp_base::id::{Place, SymbolId};
+use lisp_base::refusal::Refusal;
 use lisp_program::form::CoreKind;
 
 /// What a datum is expanded to by itself.
@@ -10,10 +11,10 @@ pub enum Expanded {
     Lambda(u32),
     /// A `defun` of this function with so many parameters; its body stands under it.
     Defun(SymbolId, u32),
-    /// What is refused with this number.
-    Refused(u32),
-    /// A function that is refused with this number, and still counts among the functions.
-    RefusedFunction(u32),
+    /// What is refused for this reason.
+    Refused(Refusal),
+    /// A function that is refused for this reason, and still counts among the functions.
+    RefusedFunction(Refusal),
 }
 
 /// One form of an expansion in preorder: what it is, its place, and how many forms stand directly under it.

@@ -14,12 +14,12 @@ use crate::expanded::Expanded;
 use crate::keywords::Roles;
 use crate::levels::Level;
 use crate::operator::Operator;
-use crate::refusal::UNKNOWN_OPERATOR;
 use crate::scope::{Context, first_symbol};
 use crate::shape::{Shape, at_least, bad, faultless, fixed, where_holds};
 use crate::value_shapes::{change_shape, if_shape, quoted, setq_shape, swap_shape};
 use lisp_base::id::Place;
 use lisp_base::memory::Memory;
+use lisp_base::refusal::Refusal;
 use lisp_data::items::Items;
 use lisp_program::form::CoreKind;
 use lisp_program::function::Primitive;
@@ -153,7 +153,7 @@ pub fn shape_led(
     ensures { IfOk result (λ shape. shape ≡ Shapes.shape_led (scope_in context.now) place operator arguments.entry) }
 {
     match operator {
-        None => Ok(Shape::Wrong(UNKNOWN_OPERATOR, place)),
+        None => Ok(Shape::Wrong(Refusal::UnknownOperator, place)),
         Some(operator) => operator_led(alloc, context, place, operator, arguments),
     }
 }

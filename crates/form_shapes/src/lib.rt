@@ -14,7 +14,6 @@ mod led;
 pub mod levels;
 pub mod operator;
 pub mod place;
-pub mod refusal;
 pub mod scope;
 pub mod shape;
 pub mod single;

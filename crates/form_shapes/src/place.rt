@@ -6,11 +6,11 @@ use crate::bindings::{list_fault, parameters_of};
 use crate::expanded::Expanded;
 use crate::led::shape_led;
 use crate::operator::Operator;
-use crate::refusal::{BAD_FORM, DEFINED_TWICE, FUNCTION_PLACE, UNKNOWN_OPERATOR};
 use crate::scope::{Context, first_symbol, has, is_named, leaf_symbol, operator_at};
 use crate::shape::Shape;
 use lisp_base::id::{FunctionName, Place, SymbolId};
 use lisp_base::memory::Memory;
+use lisp_base::refusal::Refusal;
 use lisp_data::items::{First, Items};
 use lisp_program::form::CoreKind;
 use std::alloc::Global;
@@ -26,15 +26,15 @@ pub enum Placed {
     Other(Expanded),
 }
 
-/// The number with which a form that may not stand here is refused: the lesser of 14 and the number with which it would be refused
-/// elsewhere at this place.
-fn misplaced_number(number: u32) -> u32
-    ensures { result ≡ Places.misplaced_number number }
+/// The refusal of a form that may not stand here, where this is what it would be refused for elsewhere at this place: that of the two
+/// with the lesser number.
+fn misplaced_refusal(refusal: Refusal) -> Refusal
+    ensures { result ≡ Places.misplaced_refusal refusal }
 {
-    if number < FUNCTION_PLACE {
-        number
+    if refusal.number() < Refusal::FunctionPlace.number() {
+        refusal
     } else {
-        FUNCTION_PLACE
+        Refusal::FunctionPlace
     }
 }
 
@@ -43,10 +43,10 @@ pub fn misplaced_kind(kind: Expanded) -> Expanded
     ensures { result ≡ Places.misplaced_kind kind }
 {
     match kind {
-        Expanded::Refused(number) | Expanded::RefusedFunction(number) => {
-            Expanded::Refused(misplaced_number(number))
+        Expanded::Refused(refusal) | Expanded::RefusedFunction(refusal) => {
+            Expanded::Refused(misplaced_refusal(refusal))
         }
-        _ => Expanded::Refused(FUNCTION_PLACE),
+        _ => Expanded::Refused(Refusal::FunctionPlace),
     }
 }
 
@@ -55,22 +55,24 @@ fn misplaced_shape(place: Place, shape: &Shape) -> Expanded
     ensures { result ≡ Places.misplaced_shape place shape.now }
 {
     match shape {
-        Shape::Wrong(number, at) if at.0 == place.0 => {
-            Expanded::Refused(misplaced_number(*number))
+        Shape::Wrong(refusal, at) if at.0 == place.0 => {
+            Expanded::Refused(misplaced_refusal(*refusal))
         }
         Shape::Leaf(kind) => misplaced_kind(*kind),
-        _ => Expanded::Refused(FUNCTION_PLACE),
+        _ => Expanded::Refused(Refusal::FunctionPlace),
     }
 }
 
 /// A `lambda` whose parameters have this fault or none.
-fn lambda_placed(fault: Option<u32>) -> Placed
+fn lambda_placed(fault: Option<Refusal>) -> Placed
     ensures { result ≡ Places.lambda_placed fault }
 {
     match fault {
         None => Placed::Made,
-        Some(DEFINED_TWICE) => Placed::Other(Expanded::RefusedFunction(DEFINED_TWICE)),
-        Some(number) => Placed::Other(Expanded::Refused(number)),
+        Some(refusal) if refusal.is(Refusal::DefinedTwice) => {
+            Placed::Other(Expanded::RefusedFunction(Refusal::DefinedTwice))
+        }
+        Some(refusal) => Placed::Other(Expanded::Refused(refusal)),
     }
 }
 
@@ -79,13 +81,13 @@ fn name_placed(context: &Context, name: Option<SymbolId>) -> Placed
     ensures { result ≡ Places.name_placed (scope_in context.now) name }
 {
     let Some(name) = name else {
-        return Placed::Other(Expanded::Refused(BAD_FORM));
+        return Placed::Other(Expanded::Refused(Refusal::BadForm));
     };
     if has(context.functions, name) {
         let function = CoreKind::Function(FunctionName::Named(name));
         return Placed::Other(Expanded::Form(function));
     }
-    Placed::Other(Expanded::Refused(UNKNOWN_OPERATOR))
+    Placed::Other(Expanded::Refused(Refusal::UnknownOperator))
 }
 
 /// `#'` of these data: of a name, or of a `lambda`.
@@ -93,10 +95,10 @@ fn function_placed(context: &Context, arguments: &Items) -> Placed
     ensures { result ≡ Places.function_placed (scope_in context.now) arguments.now }
 {
     let Some((first, others)) = arguments.split_first() else {
-        return Placed::Other(Expanded::Refused(BAD_FORM));
+        return Placed::Other(Expanded::Refused(Refusal::BadForm));
     };
     if others.count() != 0 {
-        return Placed::Other(Expanded::Refused(BAD_FORM));
+        return Placed::Other(Expanded::Refused(Refusal::BadForm));
     }
     match first {
         First::Leaf(leaf, _) => name_placed(context, leaf_symbol(leaf)),
@@ -104,7 +106,7 @@ fn function_placed(context: &Context, arguments: &Items) -> Placed
             if is_named(context.symbols, "LAMBDA", first_symbol(&under)) {
                 Placed::Inner
             } else {
-                Placed::Other(Expanded::Refused(BAD_FORM))
+                Placed::Other(Expanded::Refused(Refusal::BadForm))
             }
         }
     }

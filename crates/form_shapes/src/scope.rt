@@ -8,9 +8,9 @@ use crate::expanded::Expanded;
 use crate::function_names::operator_named;
 use crate::levels::{Level, Levels, next};
 use crate::operator::{Operator, is_constant, is_current_thread};
-use crate::refusal::{BAD_FORM, UNKNOWN_VARIABLE};
 use lisp_base::id::{Place, SymbolId};
 use lisp_base::memory::Memory;
+use lisp_base::refusal::Refusal;
 use lisp_base::value::{Node, Value};
 use lisp_data::datum::Leaf;
 use lisp_data::items::{First, Items};
@@ -243,7 +243,7 @@ pub fn constant(node: Node) -> Expanded
 {
     match Value::of(node) {
         Some(value) => Expanded::Form(CoreKind::Constant(value)),
-        None => Expanded::Refused(BAD_FORM),
+        None => Expanded::Refused(Refusal::BadForm),
     }
 }
 
@@ -267,7 +267,7 @@ fn symbol_form(context: &Context, symbol: SymbolId) -> Expanded
     }
     match target_of(context, symbol) {
         Some(target) => Expanded::Form(read_kind(&target)),
-        None => Expanded::Refused(UNKNOWN_VARIABLE),
+        None => Expanded::Refused(Refusal::UnknownVariable),
     }
 }
 

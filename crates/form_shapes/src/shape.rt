@@ -3,9 +3,9 @@ ghost use Rattle.form_shapes.specs.Shapes;
 
 use crate::expanded::Expanded;
 use crate::keywords::Roles;
-use crate::refusal::BAD_FORM;
 use crate::scope::Target;
 use lisp_base::id::{Place, SymbolId};
+use lisp_base::refusal::Refusal;
 use lisp_data::items::Items;
 use lisp_program::form::CoreKind;
 use lisp_program::function::Primitive;
@@ -13,8 +13,8 @@ use lisp_program::function::Primitive;
 /// What a list is.
 #[derive(Clone, Copy)]
 pub enum Shape {
-    /// A list that is refused with this number at this place.
-    Wrong(u32, Place),
+    /// A list that is refused for this reason at this place.
+    Wrong(Refusal, Place),
     /// A form or a refusal under which nothing stands.
     Leaf(Expanded),
     /// A form of this kind with its arguments under it, by what they are for.
@@ -70,7 +70,7 @@ pub enum Shape {
 pub fn bad(place: Place) -> Shape
     ensures { result ≡ Shapes.bad place }
 {
-    Shape::Wrong(BAD_FORM, place)
+    Shape::Wrong(Refusal::BadForm, place)
 }
 
 /// A list that has this shape where the test holds, and otherwise does not have its shape.
@@ -99,11 +99,11 @@ pub fn at_least(place: Place, wanted: u32, arguments: &Items, shape: Shape) -> S
 }
 
 /// A list whose variables have this fault or none.
-pub fn faultless(place: Place, fault: Option<u32>, shape: Shape) -> Shape
+pub fn faultless(place: Place, fault: Option<Refusal>, shape: Shape) -> Shape
     ensures { result ≡ Shapes.faultless place fault shape }
 {
     match fault {
         None => shape,
-        Some(number) => Shape::Wrong(number, place),
+        Some(refusal) => Shape::Wrong(refusal, place),
     }
 }

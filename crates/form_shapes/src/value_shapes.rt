@@ -5,13 +5,13 @@ ghost use Rattle.form_shapes.specs.Shapes;
 
 use crate::expanded::Expanded;
 use crate::keywords::Roles;
-use crate::refusal::{BAD_FORM, UNKNOWN_VARIABLE};
 use crate::scope::{
     Context, as_variable, first_place, first_symbol, has, is_named, is_variable_name, leaf_symbol,
     quoted_leaf, target_of,
 };
 use crate::shape::{Shape, bad, fixed, where_holds};
 use lisp_base::id::{Place, SymbolId};
+use lisp_base::refusal::Refusal;
 use lisp_base::value::Value;
 use lisp_data::items::{First, Items};
 use lisp_program::form::CoreKind;
@@ -25,7 +25,7 @@ fn quoted_list(count: u32) -> Expanded
     if count == 0 {
         Expanded::Form(CoreKind::Constant(Value::nil()))
     } else {
-        Expanded::Refused(BAD_FORM)
+        Expanded::Refused(Refusal::BadForm)
     }
 }
 
@@ -44,10 +44,10 @@ pub fn quoted(arguments: &Items) -> Expanded
     ensures { result ≡ Shapes.quoted arguments.now }
 {
     let Some((first, others)) = arguments.split_first() else {
-        return Expanded::Refused(BAD_FORM);
+        return Expanded::Refused(Refusal::BadForm);
     };
     if others.count() > 0 {
-        return Expanded::Refused(BAD_FORM);
+        return Expanded::Refused(Refusal::BadForm);
     }
     quoted_first(&first)
 }
@@ -117,7 +117,7 @@ fn change_of(
     match variable {
         None => bad(place),
         Some(symbol) => match target_of(context, symbol) {
-            None => Shape::Wrong(UNKNOWN_VARIABLE, at),
+            None => Shape::Wrong(Refusal::UnknownVariable, at),
             Some(target) => Shape::Change(target, function),
         },
     }
@@ -199,7 +199,7 @@ pub fn swap_shape(context: &Context, place: Place, arguments: &Items) -> Shape
             if has(context.specials, symbol) {
                 Shape::Over(CoreKind::CompareAndSwap(symbol), Roles::From(1))
             } else {
-                Shape::Wrong(UNKNOWN_VARIABLE, at)
+                Shape::Wrong(Refusal::UnknownVariable, at)
             }
         }
     }

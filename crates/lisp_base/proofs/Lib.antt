@@ -1,2 +1,3 @@
 mod Classes
+mod Refusals
 pub mod Writing

@@ -4,4 +4,5 @@ pub mod Forest
 pub mod Classes
 pub mod Timers
 pub mod Limits
+pub mod Refusals
 pub mod Writing

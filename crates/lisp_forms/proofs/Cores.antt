@@ -145,15 +145,15 @@ function-first : (kind : Expanded) (p : ℕ) (body : Forms) (fs : List Function)
 function-first (Form kind) p body fs = refl
 function-first (Lambda parameters) p body fs = refl
 function-first (Defun f parameters) p body fs = refl
-function-first (Refused number) p body fs = refl
-function-first (RefusedFunction number) p body fs = refl
+function-first (Refused refusal) p body fs = refl
+function-first (RefusedFunction refusal) p body fs = refl
 
 function-append : (kind : Expanded) (p : ℕ) (body : Forms) (fs gs : List Function) → with_function kind p body fs ++ gs ≡ with_function kind p body (fs ++ gs)
 function-append (Form kind) p body fs gs = refl
 function-append (Lambda parameters) p body fs gs = refl
 function-append (Defun f parameters) p body fs gs = refl
-function-append (Refused number) p body fs gs = refl
-function-append (RefusedFunction number) p body fs gs = refl
+function-append (Refused refusal) p body fs gs = refl
+function-append (RefusedFunction refusal) p body fs gs = refl
 
 -- the functions of the nodes are those of the forms
 functions-all : (e : Expansion) (rest : List ExpandedNode) → functions_in (flat e ++ rest) ≡ functions_of e ++ functions_in rest

@@ -1,6 +1,7 @@
 -- What data stand for, from what each function of the expander says.
 use Rattle.std.proofs.Common.{◌≡◌, ℕ, suc, List, [], ◌∷◌, Option, None, length, map, refl, ap, sym, ◌∙◌}
 use Rattle.lisp_base.specs.Forest.{count_of}
+use Rattle.lisp_base.specs.declared.refusal.Refused.{Refused}
 use Rattle.lisp_program.specs.Forms.{forms_of, preorder}
 use Rattle.lisp_program.specs.Program.{AreWhole, FlatFunction, FlatProgram, function_of, program_of}
 use Rattle.lisp_program.specs.declared.form.FormNode.{FormNode}
@@ -8,7 +9,6 @@ use Rattle.lisp_data.specs.Data.{Data}
 use Rattle.form_shapes.specs.declared.expanded.ExpandedNode.{ExpandedNode}
 use Rattle.form_shapes.specs.declared.levels.Numbered.{Numbered}
 use Rattle.form_shapes.specs.Scopes.{Scope}
-use Rattle.lisp_forms.specs.declared.expander.Refusal.{Refusal}
 use Rattle.lisp_forms.specs.inside.Flat.{flat}
 use Rattle.lisp_forms.specs.Program.{Expands, Known, core_forms, expansion_of, functions_from, functions_of, known_behind, nothing_known, program_refusal, top_forms, variables_from}
 use Rattle.lisp_forms.specs.Trees.{Expansion}
@@ -43,7 +43,7 @@ counted : (names texts : List (List ℕ)) (ds : List Data) → length ds ≡ cou
 counted names texts ds = sym (count-top (scope_by names texts (variables_from names [] ds) (functions_from names [] ds) []) nothing_known ds)
 
 -- the data are a program
-pub expands : (names texts : List (List ℕ)) (ds : List Data) (nodes : List ExpandedNode) (found : Option Refusal) (main : List FormNode) (functions : List FlatFunction) (specials : List ℕ)
+pub expands : (names texts : List (List ℕ)) (ds : List Data) (nodes : List ExpandedNode) (found : Option Refused) (main : List FormNode) (functions : List FlatFunction) (specials : List ℕ)
     (p : FlatProgram) → nodes ≡ flat (expansion_of names texts ds) → ((e : Expansion) → nodes ≡ flat e → found ≡ program_refusal e) → found ≡ None
     → ArePartsOf nodes (length ds) main functions → specials ≡ variables_from names [] ds
     → p ≡ (record { main = main; functions = functions; specials = specials }) → Expands names texts ds (program_of p)

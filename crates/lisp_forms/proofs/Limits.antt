@@ -3,9 +3,9 @@ use Rattle.std.proofs.Common.{◌≡◌, ◌≢◌, ℕ, suc, ◌+◌, ◌<◌, 
 use Rattle.std.proofs.lemmas.Bool.Decides.{nat_tests}
 use Rattle.std.proofs.Math.ListN.{drop_of_length-le}
 use Rattle.lisp_base.specs.Forest.{NoTrees, Tree}
+use Rattle.lisp_base.specs.declared.refusal.Refused.{Refused}
 use Rattle.form_shapes.proofs.Chosen.{other_of}
 use Rattle.form_shapes.specs.declared.expanded.ExpandedNode.{ExpandedNode}
-use Rattle.lisp_forms.specs.declared.expander.Refusal.{Refusal}
 use Rattle.lisp_forms.specs.inside.Flat.{flat}
 use Rattle.lisp_forms.specs.Program.{before, earlier, first_refusal, function_places, most_functions, past_limit, refusal_of}
 use Rattle.lisp_forms.specs.Blocks.{is_function}
@@ -13,25 +13,25 @@ use Rattle.lisp_forms.specs.Trees.{Expansion}
 use Rattle.lisp_forms.specs.inside.Written.{one_before, place_here}
 
 -- the first refusal of these nodes and that one
-abbrev pub first_in : Option Refusal → List ExpandedNode → Option Refusal
+abbrev pub first_in : Option Refused → List ExpandedNode → Option Refused
 first_in found [] = found
 first_in found (n ∷ ns) = first_in (earlier found (refusal_of n.kind n.place)) ns
 
 -- of nodes one after the other
-first_in-append : (found : Option Refusal) (xs ys : List ExpandedNode) → first_in found (xs ++ ys) ≡ first_in (first_in found xs) ys
+first_in-append : (found : Option Refused) (xs ys : List ExpandedNode) → first_in found (xs ++ ys) ≡ first_in (first_in found xs) ys
 first_in-append found [] ys = refl
 first_in-append found (x ∷ xs) ys = first_in-append (earlier found (refusal_of x.kind x.place)) xs ys
 
 -- the first of the nodes is the first of the forms
-pub first_in-flat : (found : Option Refusal) (e : Expansion) → first_in found (flat e) ≡ first_refusal found e
+pub first_in-flat : (found : Option Refused) (e : Expansion) → first_in found (flat e) ≡ first_refusal found e
 first_in-flat found NoTrees = refl
 first_in-flat found (Tree kind p under beside) =
-    let now : Option Refusal = earlier found (refusal_of kind p) in
+    let now : Option Refused = earlier found (refusal_of kind p) in
     first_in-append now (flat under) (flat beside) ∙ ap (λ r. first_in r (flat beside)) (first_in-flat now under)
     ∙ first_in-flat (first_refusal now under) beside
 
 -- none is left
-pub first_end : (found : Option Refusal) (i : ℕ) (ns : List ExpandedNode) (e : Expansion) → length ns ≤ i → first_in found (drop i ns) ≡ first_in None ns → ns ≡ flat e
+pub first_end : (found : Option Refused) (i : ℕ) (ns : List ExpandedNode) (e : Expansion) → length ns ≤ i → first_in found (drop i ns) ≡ first_in None ns → ns ≡ flat e
     → found ≡ first_refusal None e
 first_end found i ns e h so_far is =
     sym (ap (first_in found) (drop_of_length-le ns {i = i} h)) ∙ so_far ∙ ap (first_in None) is ∙ first_in-flat None e

@@ -33,8 +33,8 @@ abbrev pub lowered_kind : ℕ → Expanded → Expanded
 lowered_kind n (Form kind) = Form (lowered_core n kind)
 lowered_kind n (Lambda parameters) = Lambda parameters
 lowered_kind n (Defun f parameters) = Defun f parameters
-lowered_kind n (Refused number) = Refused number
-lowered_kind n (RefusedFunction number) = RefusedFunction number
+lowered_kind n (Refused refusal) = Refused refusal
+lowered_kind n (RefusedFunction refusal) = RefusedFunction refusal
 
 -- what stands for a form leaves to the block with this number
 abbrev pub is_return_to : ℕ → Expanded → Bool
@@ -46,8 +46,8 @@ abbrev pub is_function : Expanded → Bool
 is_function (Form kind) = false
 is_function (Lambda parameters) = true
 is_function (Defun f parameters) = true
-is_function (Refused number) = false
-is_function (RefusedFunction number) = true
+is_function (Refused refusal) = false
+is_function (RefusedFunction refusal) = true
 
 -- some form of these leaves to the block with this number
 abbrev pub returns_to : ℕ → Expansion → Bool

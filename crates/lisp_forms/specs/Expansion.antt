@@ -3,6 +3,7 @@ use Rattle.std.specs.Prelude.{ℕ, zero, suc, List, Bool, true, false, ◌&&◌,
 use Rattle.lisp_base.specs.Forest.{NoTrees}
 use Rattle.lisp_base.specs.declared.condition.Class.{Class}
 use Rattle.lisp_base.specs.declared.condition.Class.TheVariants.{Condition}
+use Rattle.lisp_base.specs.declared.refusal.Refusal.TheVariants.{BadForm, UnknownOperator}
 use Rattle.lisp_data.specs.Data.{Data, NoData, Atom, Listed}
 use Rattle.lisp_data.specs.declared.datum.Leaf.{Leaf}
 use Rattle.form_shapes.specs.declared.keywords.Role.{Role}
@@ -26,7 +27,7 @@ use Rattle.lisp_forms.specs.Trees.{Expansion, Single, in_front, leaf, nil_form, 
 
 -- What stands for a list of this shape at a place, with these variables of a `let`: a line for each shape, which names its row.
 abbrev pub list_form : Scope → ℕ → Shape → List ℕ → Parts → Single
-list_form s p (shape.Wrong number q) xs parts = refused number q
+list_form s p (shape.Wrong refusal q) xs parts = refused refusal q
 list_form s p (shape.Leaf kind) xs parts = leaf kind p
 list_form s p (shape.Over kind roles) xs parts = Rows.over_form s p kind roles parts
 list_form s p (shape.OverNil kind roles) xs parts = Rows.over_nil_form s p kind roles parts
@@ -56,7 +57,7 @@ list_form s p (shape.Mutex waitp timeout) xs parts = Rows.mutex_form s p waitp t
 list_form s p shape.RecursiveLock xs parts = Rows.lock_form s p parts
 list_form s p shape.Timeout xs parts = Rows.timeout_form s p parts
 list_form s p shape.Terminate xs parts = Rows.terminate_form s p parts
-list_form s p (shape.Defun f) xs parts = refused 12 p
+list_form s p (shape.Defun f) xs parts = refused BadForm p
 
 -- what the rest of a `let*` is read by, after a variable
 abbrev pub behind_variable : Scope → Option ℕ → Scope
@@ -103,8 +104,8 @@ abbrev mutual
 
   -- a list of these, at a place
   pub listed : Scope → ℕ → Data → Single
-  listed s p NoData = refused 11 p
-  listed s p (Listed q under args) = refused 11 p
+  listed s p NoData = refused UnknownOperator p
+  listed s p (Listed q under args) = refused UnknownOperator p
   listed s p (Atom l q args) =
       list_form s p (shape_of s p (Atom l q args)) (or_none (variables_of args)) record {
         arguments = λ roles. by_roles s roles 0 args;
@@ -223,16 +224,16 @@ abbrev mutual
 
   -- a list of these in a function's place
   pub placed : Scope → ℕ → Data → Single
-  placed s p NoData = refused 11 p
-  placed s p (Listed q under args) = refused 11 p
+  placed s p NoData = refused UnknownOperator p
+  placed s p (Listed q under args) = refused UnknownOperator p
   placed s p (Atom l q args) =
       placed_form s p (placed_of s p (Atom l q args)) (parameters_in args)
       (function_body_in (scope_within s (parameters_in args)) 1 args) (placed_first s args)
 
   -- the list that is the first of these, in a function's place
   pub placed_first : Scope → Data → Single
-  placed_first s NoData = refused 12 0
-  placed_first s (Atom l p beside) = refused 12 0
+  placed_first s NoData = refused BadForm 0
+  placed_first s (Atom l p beside) = refused BadForm 0
   placed_first s (Listed p under beside) = placed s p under
 
 -- the parts of a list with these arguments

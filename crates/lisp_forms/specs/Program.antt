@@ -2,7 +2,13 @@
 use Rattle.std.specs.Prelude.{◌≡◌, ℕ, suc, List, [], ◌∷◌, ◌++◌, Bool, true, false, ◌&&◌, ◌||◌, ◌==◌, Option, Some, None, if◌then◌else◌, nat_lt, length, not}
 use Rattle.std.specs.Option.{is_some}
 use Rattle.lisp_base.specs.Forest.{NoTrees, Tree}
+use Rattle.lisp_base.specs.Refusals.{are_same, refusal_number}
 use Rattle.lisp_base.specs.declared.id.FunctionName.TheVariants.{Named, At}
+use Rattle.lisp_base.specs.declared.refusal.Refusal.{Refusal}
+use Rattle.lisp_base.specs.declared.refusal.Refusal.TheVariants.{BadForm, DefinedTwice, TooMany, UnknownOperator}
+use Rattle.lisp_base.specs.declared.refusal.Refused.{Refused}
+use Rattle.lisp_base.specs.declared.refusal.Rejection.{Rejection}
+use Rattle.lisp_base.specs.declared.refusal.Rejection.TheVariants.{Refused as RefusedProgram, Memory}
 use Rattle.lisp_base.specs.declared.value.Node.TheVariants.{Symbol as ASymbol}
 use Rattle.lisp_program.specs.Forms.{Forms}
 use Rattle.lisp_program.specs.Points.{nil}
@@ -14,10 +20,8 @@ use Rattle.form_shapes.specs.declared.operator.Operator.{Operator}
 use Rattle.form_shapes.specs.declared.operator.Operator.TheVariants as op
 use Rattle.form_shapes.specs.Operators.{operator_named}
 use Rattle.form_shapes.specs.declared.expanded.Expanded.{Expanded}
-use Rattle.form_shapes.specs.declared.expanded.Expanded.TheVariants.{Form, Lambda, Defun, Refused, RefusedFunction}
+use Rattle.form_shapes.specs.declared.expanded.Expanded.TheVariants.{Form, Lambda, Defun, Refused as RefusedForm, RefusedFunction}
 use Rattle.form_shapes.specs.declared.keywords.Roles.TheVariants.{Just}
-use Rattle.form_shapes.specs.declared.refusal.ExpandRefusal.{ExpandRefusal}
-use Rattle.form_shapes.specs.declared.refusal.ExpandRefusal.TheVariants.{Refused as RefusedProgram, Memory}
 use Rattle.form_shapes.specs.declared.levels.Level.TheVariants.{Block}
 use Rattle.form_shapes.specs.declared.shape.Shape.{Shape}
 use Rattle.form_shapes.specs.declared.shape.Shape.TheVariants as shape
@@ -25,7 +29,6 @@ use Rattle.form_shapes.specs.Bindings.{is_text_first, list_fault, or_none, param
 use Rattle.form_shapes.specs.Places.{parameters_in, scope_within}
 use Rattle.form_shapes.specs.Scopes.{Scope, as_variable, first_symbol, has, inside, name_of}
 use Rattle.form_shapes.specs.Shapes.{shape_of}
-use Rattle.lisp_forms.specs.declared.expander.Refusal.{Refusal}
 use Rattle.lisp_forms.specs.Expansion.{function_body_in, leaf_single, list_form, parts_in}
 use Rattle.lisp_forms.specs.Blocks.{is_function}
 use Rattle.lisp_forms.specs.Rows.{defun_form}
@@ -55,9 +58,9 @@ abbrev pub definition_in : List (List ℕ) → Data → Option ℕ
 definition_in names under = defined_by names (built_in names (first_symbol under)) (behind 1 under)
 
 -- a fault that leaves a definition without its shape
-abbrev pub is_shapeless : Option ℕ → Bool
+abbrev pub is_shapeless : Option Refusal → Bool
 is_shapeless None = false
-is_shapeless (Some number) = number == 12
+is_shapeless (Some refusal) = are_same refusal BadForm
 
 -- the name of the function of a list with this operator and these arguments, where it is a `defun` with its shape
 abbrev pub function_by : List (List ℕ) → Option Operator → Data → Option ℕ
@@ -127,8 +130,8 @@ definition_shape x by_defvar args =
 -- a definition of a variable, where these variables are defined before it
 abbrev pub variable_shape : List ℕ → ℕ → ℕ → (by_defvar : Bool) → Data → Shape
 variable_shape known p x by_defvar args =
-    if has known x then shape.Wrong 18 p
-    else if length known == most_specials then shape.Wrong 17 p
+    if has known x then shape.Wrong DefinedTwice p
+    else if length known == most_specials then shape.Wrong TooMany p
     else definition_shape x by_defvar args
 
 -- a function may be defined by this name: the language has none of that name, and none is defined before
@@ -137,10 +140,10 @@ is_new names known f = not (has known f || is_built_in names f)
 
 -- A definition of a function whose parameters have this fault or none, where these functions are defined before it. One whose
 -- name is not new is refused and does not count among the functions.
-abbrev pub defun_shape : List (List ℕ) → List ℕ → ℕ → ℕ → Option ℕ → Shape
-defun_shape names known p f (Some number) =
-    if (number == 18) && is_new names known f then shape.Leaf (RefusedFunction 18) else shape.Wrong number p
-defun_shape names known p f None = if is_new names known f then shape.Defun f else shape.Wrong 18 p
+abbrev pub defun_shape : List (List ℕ) → List ℕ → ℕ → ℕ → Option Refusal → Shape
+defun_shape names known p f (Some refusal) =
+    if are_same refusal DefinedTwice && is_new names known f then shape.Leaf (RefusedFunction DefinedTwice) else shape.Wrong refusal p
+defun_shape names known p f None = if is_new names known f then shape.Defun f else shape.Wrong DefinedTwice p
 
 -- an operator of the top level that is ignored there
 abbrev pub is_ignored : Option Operator → Bool
@@ -176,15 +179,15 @@ top_list_form s p other args = list_form s p other (or_none (variables_of args))
 
 -- a list of these at top level
 abbrev pub top_list : Scope → Known → ℕ → Data → Single
-top_list s known p NoData = refused 11 p
-top_list s known p (Listed q under args) = refused 11 p
+top_list s known p NoData = refused UnknownOperator p
+top_list s known p (Listed q under args) = refused UnknownOperator p
 top_list s known p (Atom leaf q args) =
     let under : Data = Atom leaf q args in
     top_list_form s p (top_shape s known p (definition_in s.names under) (function_in s.names under) under) args
 
 -- the first of these as a form at top level
 abbrev pub top_form : Scope → Known → Data → Single
-top_form s known NoData = refused 11 0
+top_form s known NoData = refused UnknownOperator 0
 top_form s known (Atom leaf p beside) = leaf_single s leaf p
 top_form s known (Listed p under beside) = top_list s known p under
 
@@ -211,30 +214,30 @@ nothing_known = record { variables = []; functions = [] }
 abbrev pub expansion_of : (names texts : List (List ℕ)) → List Data → Expansion
 expansion_of names texts ds = top_forms (scope_of names texts ds) nothing_known ds
 
--- one refusal comes before another: by place, and at one place by number
-abbrev pub comes_before : Refusal → Refusal → Bool
-comes_before a b = nat_lt a.place b.place || ((a.place == b.place) && nat_lt a.number b.number)
+-- one refusal comes before another: by place, and at one place by its number
+abbrev pub comes_before : Refused → Refused → Bool
+comes_before a b = nat_lt a.place b.place || ((a.place == b.place) && nat_lt (refusal_number a.refusal) (refusal_number b.refusal))
 
 -- the first of two
-abbrev pub earlier : Option Refusal → Option Refusal → Option Refusal
+abbrev pub earlier : Option Refused → Option Refused → Option Refused
 earlier None b = b
 earlier (Some a) None = Some a
 earlier (Some a) (Some b) = if comes_before b a then Some b else Some a
 
--- what is refused with this number at this place
-abbrev pub refusal : ℕ → ℕ → Option Refusal
-refusal number p = Some (record { number = number; place = p })
+-- what is refused for this reason at this place
+abbrev pub refused_at : Refusal → ℕ → Option Refused
+refused_at refusal p = Some (record { refusal = refusal; place = p })
 
 -- what is refused of a form by itself
-abbrev pub refusal_of : Expanded → ℕ → Option Refusal
+abbrev pub refusal_of : Expanded → ℕ → Option Refused
 refusal_of (Form kind) p = None
 refusal_of (Lambda parameters) p = None
 refusal_of (Defun f parameters) p = None
-refusal_of (Refused number) p = refusal number p
-refusal_of (RefusedFunction number) p = refusal number p
+refusal_of (RefusedForm refusal) p = refused_at refusal p
+refusal_of (RefusedFunction refusal) p = refused_at refusal p
 
 -- the first refusal of these and that one
-abbrev pub first_refusal : Option Refusal → Expansion → Option Refusal
+abbrev pub first_refusal : Option Refused → Expansion → Option Refused
 first_refusal found NoTrees = found
 first_refusal found (Tree kind p under beside) = first_refusal (first_refusal (earlier found (refusal_of kind p)) under) beside
 
@@ -255,12 +258,12 @@ past_limit all [] = None
 past_limit all (p ∷ ps) = if before p all == most_functions then Some p else past_limit all ps
 
 -- a function past the limit is refused
-abbrev pub limit_refusal : Option ℕ → Option Refusal
+abbrev pub limit_refusal : Option ℕ → Option Refused
 limit_refusal None = None
-limit_refusal (Some p) = refusal 17 p
+limit_refusal (Some p) = refused_at TooMany p
 
 -- what is refused of a program
-abbrev pub program_refusal : Expansion → Option Refusal
+abbrev pub program_refusal : Expansion → Option Refused
 program_refusal e = earlier (first_refusal None e) (limit_refusal (past_limit (function_places e) (function_places e)))
 
 -- the kind of a form that is not refused; what is given for one that is does not matter
@@ -268,8 +271,8 @@ abbrev pub core_kind : Expanded → ℕ → CoreKind
 core_kind (Form kind) p = kind
 core_kind (Lambda parameters) p = k.Function (At p)
 core_kind (Defun f parameters) p = k.Defun f
-core_kind (Refused number) p = k.Constant nil
-core_kind (RefusedFunction number) p = k.Constant nil
+core_kind (RefusedForm refusal) p = k.Constant nil
+core_kind (RefusedFunction refusal) p = k.Constant nil
 
 -- the forms without the bodies of functions
 abbrev pub core_forms : Expansion → Forms
@@ -282,8 +285,8 @@ abbrev pub with_function : Expanded → ℕ → Forms → List Function → List
 with_function (Form kind) p body fs = fs
 with_function (Lambda parameters) p body fs = (record { name = At p; place = p; params = parameters; body = body }) ∷ fs
 with_function (Defun f parameters) p body fs = (record { name = Named f; place = p; params = parameters; body = body }) ∷ fs
-with_function (Refused number) p body fs = fs
-with_function (RefusedFunction number) p body fs = fs
+with_function (RefusedForm refusal) p body fs = fs
+with_function (RefusedFunction refusal) p body fs = fs
 
 -- the functions in these, each before those in it
 abbrev pub functions_of : Expansion → List Function
@@ -297,11 +300,11 @@ pub record Expands (names texts : List (List ℕ)) (ds : List Data) (program : P
   pub functions : program.functions ≡ functions_of (expansion_of names texts ds)
   pub specials : program.specials ≡ variables_from names [] ds
 
--- The data are refused with this number at this place: of all that is refused of them it comes first.
-abbrev pub IsRefused : (names texts : List (List ℕ)) → List Data → ℕ → ℕ → Type 0
-IsRefused names texts ds number place = program_refusal (expansion_of names texts ds) ≡ refusal number place
+-- The data are refused for this reason at this place: of all that is refused of them it comes first.
+abbrev pub IsRefused : (names texts : List (List ℕ)) → List Data → Refusal → ℕ → Type 0
+IsRefused names texts ds refusal place = program_refusal (expansion_of names texts ds) ≡ refused_at refusal place
 
 -- a refusal says why data are refused; it says nothing where memory runs out
-abbrev pub IsRefusal : (names texts : List (List ℕ)) → List Data → ExpandRefusal → Type 0
-IsRefusal names texts ds (RefusedProgram number place) = IsRefused names texts ds number place
+abbrev pub IsRefusal : (names texts : List (List ℕ)) → List Data → Rejection → Type 0
+IsRefusal names texts ds (RefusedProgram refusal place) = IsRefused names texts ds refusal place
 IsRefusal names texts ds Memory = Unit {0}

@@ -5,6 +5,7 @@ use Rattle.lisp_base.specs.Forest.{NoTrees, Tree, joined}
 use Rattle.lisp_base.specs.declared.condition.Class.{Class}
 use Rattle.lisp_base.specs.declared.condition.Class.TheVariants.{Error, Timeout}
 use Rattle.lisp_base.specs.declared.id.FunctionName.TheVariants.{AbortThread}
+use Rattle.lisp_base.specs.declared.refusal.Refusal.TheVariants.{UnknownVariable}
 use Rattle.lisp_base.specs.declared.value.Node.TheVariants.{Int as AnInt, Symbol as ASymbol}
 use Rattle.lisp_program.specs.declared.form.CoreKind.{CoreKind}
 use Rattle.lisp_program.specs.declared.form.CoreKind.TheVariants as k
@@ -131,7 +132,7 @@ prog1_form s p parts =
 
 -- `(setq v x)`, whose variable stands at q; where there is none it is refused there
 abbrev pub set_form : ℕ → Option Target → (q : ℕ) → (value : Single) → Single
-set_form p None q value = leaf (Refused 13) q
+set_form p None q value = leaf (Refused UnknownVariable) q
 set_form p (Some target) q value = form (set_kind target) p (only value)
 
 -- one of several is that one, and more are a `progn`
@@ -303,7 +304,7 @@ locked g h region p mutex test body =
     let guarded : Single = form (k.WithoutInterrupts region) p (only (form k.UnwindProtect p (both protected (release_form g h p)))) in
     form k.Let p (three mutex (nil_form p) (form (k.BindLocal g 1) p (only (form (k.BindLocal h 0) p (only guarded)))))
 
--- `(setq h (allow-with-interrupts (grab-mutex g ..)))`, with these operands behind the mutex
+-- `(setq h (allow-with-interrupts (grab-mutex g ..)))`, with these operands after the mutex
 abbrev pub grabbing : (g h region : ℕ) → ℕ → (waitp timeout : Bool) → (operands : Expansion) → Single
 grabbing g h region p waitp timeout operands =
     let grab : Single = form (k.Serve (service.GrabMutex waitp timeout)) p (in_front (local g p) operands) in

@@ -1,6 +1,7 @@
 -- Forms with what is refused of them in its place, as trees.
 use Rattle.std.specs.Prelude.{ℕ}
 use Rattle.lisp_base.specs.Forest.{Forest, NoTrees, Tree}
+use Rattle.lisp_base.specs.declared.refusal.Refusal.{Refusal}
 use Rattle.lisp_program.specs.Points.{nil}
 use Rattle.lisp_program.specs.declared.form.CoreKind.{CoreKind}
 use Rattle.lisp_program.specs.declared.form.CoreKind.TheVariants.{Constant, Progn}
@@ -41,9 +42,9 @@ leaf k p = record { kind = k; place = p; under = NoTrees }
 abbrev pub form : CoreKind → ℕ → Expansion → Single
 form k p under = record { kind = Form k; place = p; under = under }
 
--- what is refused with this number at this place
-abbrev pub refused : ℕ → ℕ → Single
-refused number p = leaf (Refused number) p
+-- what is refused for this reason at this place
+abbrev pub refused : Refusal → ℕ → Single
+refused refusal p = leaf (Refused refusal) p
 
 -- the constant NIL
 abbrev pub nil_form : ℕ → Single

@@ -16,12 +16,12 @@ use form_shapes::expanded::{Expanded, ExpandedNode};
 use form_shapes::keywords::{Role, Roles, parts_of, role_at};
 use form_shapes::levels::Levels;
 use form_shapes::place::{Placed, misplaced_kind};
-use form_shapes::refusal::BAD_FORM;
 use form_shapes::scope::Base;
 use form_shapes::shape::Shape;
 use form_shapes::single::rest;
 use form_shapes::within::{leaf_within, placed_within, received_within, shape_within};
 use lisp_base::id::Place;
+use lisp_base::refusal::Refusal;
 use lisp_base::writer::Writer;
 use lisp_data::items::{First, Items};
 use lisp_program::form::CoreKind;
@@ -131,7 +131,7 @@ pub fn push_shaped(
     ensures { Wrote nodes.old nodes.new (flat_one (list_form (scope_at base.now levels.now depth) place shape (let_variables arguments.entry) (parts_in (scope_at base.now levels.now depth) place arguments.entry))) }
 {
     match shape {
-        Shape::Wrong(number, at) => push_node(Expanded::Refused(number), at, 0, nodes),
+        Shape::Wrong(refusal, at) => push_node(Expanded::Refused(refusal), at, 0, nodes),
         Shape::Leaf(kind) => push_node(kind, place, 0, nodes),
         Shape::Over(kind, roles) => push_over(
             alloc, base, levels, depth, kind, roles, place, arguments, nodes,
@@ -203,7 +203,7 @@ pub fn push_shaped(
         Shape::Terminate => rows::push_terminate(
             alloc, base, levels, depth, place, arguments, nodes,
         ),
-        Shape::Defun(_) => push_node(Expanded::Refused(BAD_FORM), place, 0, nodes),
+        Shape::Defun(_) => push_node(Expanded::Refused(Refusal::BadForm), place, 0, nodes),
     }
 }
 
@@ -315,10 +315,10 @@ fn push_inner(
     ensures { Wrote nodes.old nodes.new (flat_one (placed_first (scope_at base.now levels.now depth) arguments.entry)) }
 {
     let Some((first, _)) = arguments.split_first() else {
-        return push_node(Expanded::Refused(BAD_FORM), Place(0), 0, nodes);
+        return push_node(Expanded::Refused(Refusal::BadForm), Place(0), 0, nodes);
     };
     match first {
-        First::Leaf(_, _) => push_node(Expanded::Refused(BAD_FORM), Place(0), 0, nodes),
+        First::Leaf(_, _) => push_node(Expanded::Refused(Refusal::BadForm), Place(0), 0, nodes),
         First::List(place, under) => push_placed_list(
             alloc, base, levels, depth, place, under, nodes,
         ),

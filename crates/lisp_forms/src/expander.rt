@@ -12,35 +12,29 @@ use crate::split::split;
 use crate::top::expansion;
 use form_shapes::expanded::{Expanded, ExpandedNode};
 use form_shapes::levels::Levels;
-use form_shapes::refusal::{ExpandRefusal, TOO_MANY};
 use form_shapes::scope::Base;
 use lisp_base::id::Place;
 use lisp_base::memory::Memory;
+use lisp_base::refusal::{Refusal, Refused, Rejection};
 use lisp_data::datum::Datum;
 use lisp_program::form;
 use std::alloc::Global;
 use symbol_table::symbols::Symbols;
 use symbol_table::texts::Texts;
 
-/// What is refused, and where.
-#[derive(Clone, Copy, Debug, PartialEq, Eq)]
-pub struct Refusal {
-    pub number: u32,
-    pub place: Place,
-}
-
 /// A program may have so many functions.
 const MOST_FUNCTIONS: usize = 1024;
 
 /// Whether one refusal comes before another.
-fn comes_before(one: &Refusal, other: &Refusal) -> bool
+fn comes_before(one: &Refused, other: &Refused) -> bool
     ensures { result ≡ Program.comes_before one.now other.now }
 {
-    one.place.0 < other.place.0 || (one.place == other.place && one.number < other.number)
+    one.place.0 < other.place.0
+        || (one.place == other.place && one.refusal.number() < other.refusal.number())
 }
 
 /// The first of two refusals.
-fn earlier(one: Option<Refusal>, other: Option<Refusal>) -> Option<Refusal>
+fn earlier(one: Option<Refused>, other: Option<Refused>) -> Option<Refused>
     ensures { result ≡ Program.earlier one other }
 {
     match (one, other) {
@@ -57,12 +51,12 @@ fn earlier(one: Option<Refusal>, other: Option<Refusal>) -> Option<Refusal>
 }
 
 /// What is refused of a node by itself.
-fn refusal_of(node: &ExpandedNode) -> Option<Refusal>
+fn refusal_of(node: &ExpandedNode) -> Option<Refused>
     ensures { result ≡ Program.refusal_of node.now.kind node.now.place }
 {
     match node.kind {
-        Expanded::Refused(number) | Expanded::RefusedFunction(number) => Some(Refusal {
-            number,
+        Expanded::Refused(refusal) | Expanded::RefusedFunction(refusal) => Some(Refused {
+            refusal,
             place: node.place,
         }),
         _ => None,
@@ -70,7 +64,7 @@ fn refusal_of(node: &ExpandedNode) -> Option<Refusal>
 }
 
 /// The first refusal among these nodes.
-fn first_refusal(nodes: &[ExpandedNode]) -> Option<Refusal>
+fn first_refusal(nodes: &[ExpandedNode]) -> Option<Refused>
     ensures { (e : Expansion) → nodes.now ≡ flat e → result ≡ Program.first_refusal None e }
 {
     let mut found = None;
@@ -135,26 +129,26 @@ fn past_limit(places: &[Place]) -> Option<Place>
 }
 
 /// What is refused of a program with these nodes.
-fn program_refusal(alloc: Global, nodes: &[ExpandedNode]) -> Result<Option<Refusal>, Memory>
+fn program_refusal(alloc: Global, nodes: &[ExpandedNode]) -> Result<Option<Refused>, Memory>
     ensures { IfOk result (λ refusal. (e : Expansion) → nodes.now ≡ flat e → refusal ≡ Program.program_refusal e) }
 {
     let places = function_places(alloc, nodes)?;
     let past = past_limit(places.as_slice());
-    let limit = past.map(|place| Refusal {
-        number: TOO_MANY,
+    let limit = past.map(|place| Refused {
+        refusal: Refusal::TooMany,
         place,
     });
     Ok(earlier(first_refusal(nodes), limit))
 }
 
 /// The program that data stand for, where these are the names of its symbols and the texts of its string literals. It errs with what
-/// is refused of the data, by the least place and there by the least number, and where memory runs out.
+/// is refused of the data, by the least place and there by the least number of a refusal, and where memory runs out.
 pub fn expand(
     alloc: Global,
     program: &[Datum],
     symbols: &Symbols,
     texts: &Texts,
-) -> Result<form::Program, ExpandRefusal>
+) -> Result<form::Program, Rejection>
     ensures expanded { IfOk result (λ p. Program.Expands symbols.now texts.now program.now (program_of p)) }
     ensures whole { IfOk result (λ p. AreWhole p.main) }
     ensures refused { IfErr result (Program.IsRefusal symbols.now texts.now program.now) }
@@ -170,11 +164,8 @@ pub fn expand(
     };
     let expansion = expansion(alloc, &base, &levels, program)?;
     let nodes = expansion.as_slice();
-    if let Some(refusal) = program_refusal(alloc, nodes)? {
-        return Err(ExpandRefusal::Refused {
-            number: refusal.number,
-            place: refusal.place,
-        });
+    if let Some(told) = program_refusal(alloc, nodes)? {
+        return Err(Rejection::at(told.refusal, told.place));
     }
     let (main, functions) = split(alloc, program.len(), nodes)?;
     Ok(form::Program::of(main, functions, specials))

@@ -4,10 +4,10 @@ ghost use Rattle.lisp_forms.specs.Program;
 use form_shapes::bindings::{is_text_first, list_fault, parameters_of};
 use form_shapes::function_names::operator_named;
 use form_shapes::operator::Operator;
-use form_shapes::refusal::BAD_FORM;
 use form_shapes::scope::{as_variable, first_symbol, has, name_of};
 use lisp_base::id::SymbolId;
 use lisp_base::memory::Memory;
+use lisp_base::refusal::Refusal;
 use lisp_data::datum::Datum;
 use lisp_data::items::{First, Items};
 use std::alloc::Global;
@@ -63,7 +63,7 @@ fn function_by(
 {
     let parameters = parameters_of(alloc, &arguments.skip(1))?;
     match list_fault(symbols, &parameters) {
-        Some(BAD_FORM) => Ok(None),
+        Some(refusal) if refusal.is(Refusal::BadForm) => Ok(None),
         _ => Ok(as_variable(symbols, first_symbol(arguments))),
     }
 }

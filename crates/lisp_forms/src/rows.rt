@@ -19,12 +19,12 @@ use form_shapes::bindings::body_of;
 use form_shapes::expanded::{Expanded, ExpandedNode};
 use form_shapes::keywords::{Roles, parts_of};
 use form_shapes::levels::{Levels, next};
-use form_shapes::refusal::UNKNOWN_VARIABLE;
 use form_shapes::scope::{Base, Target, set_kind};
 use form_shapes::single::{is_list, place_by, rest};
 use form_shapes::within::target_within;
 use lisp_base::condition::Class;
 use lisp_base::id::{FunctionName, Place};
+use lisp_base::refusal::Refusal;
 use lisp_base::value::Value;
 use lisp_base::writer::Writer;
 use lisp_data::items::{First, Items};
@@ -362,7 +362,7 @@ fn push_pair(
 {
     match target_within(base, levels, depth, variable) {
         None => push_node(
-            Expanded::Refused(UNKNOWN_VARIABLE),
+            Expanded::Refused(Refusal::UnknownVariable),
             place_by(variable),
             0,
             nodes,

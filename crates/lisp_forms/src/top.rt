@@ -20,12 +20,12 @@ use form_shapes::expanded::{Expanded, ExpandedNode};
 use form_shapes::keywords::Roles;
 use form_shapes::levels::{Level, Levels};
 use form_shapes::operator::Operator;
-use form_shapes::refusal::{DEFINED_TWICE, TOO_MANY, UNKNOWN_OPERATOR};
 use form_shapes::scope::{Base, first_symbol, has};
 use form_shapes::shape::Shape;
 use form_shapes::within::{leaf_within, received_within, shape_within};
 use lisp_base::id::{Place, SymbolId};
 use lisp_base::memory::Memory;
+use lisp_base::refusal::Refusal;
 use lisp_base::value::Value;
 use lisp_base::writer::Writer;
 use lisp_data::datum::Datum;
@@ -68,10 +68,10 @@ fn variable_shape(
     ensures { (args : Data) → count ≡ count_of args → result ≡ Program.variable_shape known.now place symbol by_defvar args }
 {
     if has(known, symbol) {
-        return Shape::Wrong(DEFINED_TWICE, place);
+        return Shape::Wrong(Refusal::DefinedTwice, place);
     }
     if known.len() == MOST_SPECIALS {
-        return Shape::Wrong(TOO_MANY, place);
+        return Shape::Wrong(Refusal::TooMany, place);
     }
     definition_shape(symbol, by_defvar, count)
 }
@@ -82,16 +82,18 @@ fn defun_shape(
     known: &[SymbolId],
     place: Place,
     name: SymbolId,
-    fault: Option<u32>,
+    fault: Option<Refusal>,
 ) -> Shape
     ensures { result ≡ Program.defun_shape symbols.now known.now place name fault }
 {
     let is_new = !has(known, name) && !is_built_in(symbols, name);
     match fault {
-        Some(DEFINED_TWICE) if is_new => Shape::Leaf(Expanded::RefusedFunction(DEFINED_TWICE)),
-        Some(number) => Shape::Wrong(number, place),
+        Some(refusal) if refusal.is(Refusal::DefinedTwice) && is_new => {
+            Shape::Leaf(Expanded::RefusedFunction(Refusal::DefinedTwice))
+        }
+        Some(refusal) => Shape::Wrong(refusal, place),
         None if is_new => Shape::Defun(name),
-        None => Shape::Wrong(DEFINED_TWICE, place),
+        None => Shape::Wrong(Refusal::DefinedTwice, place),
     }
 }
 
@@ -246,7 +248,12 @@ fn push_top(
     ensures { Wrote nodes.old nodes.new (flat_one (Program.top_form (scope_at base.now levels.now 0) (known_as known.now) datum.now)) }
 {
     let Some((first, _)) = Items::of(datum).split_first() else {
-        return push_node(Expanded::Refused(UNKNOWN_OPERATOR), Place(0), 0, nodes);
+        return push_node(
+            Expanded::Refused(Refusal::UnknownOperator),
+            Place(0),
+            0,
+            nodes,
+        );
     };
     match first {
         First::Leaf(leaf, place) => push_node(leaf_within(base, levels, 0, leaf), place, 0, nodes),

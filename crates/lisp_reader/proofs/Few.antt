@@ -1,5 +1,6 @@
 -- A text has no more parts than bytes.
 use Rattle.std.proofs.Common.{ℕ, suc, ◌+◌, ◌≤◌, ◌==◌, ◌&&◌, Bool, true, false, if◌then◌else◌, List, [], ◌∷◌, ◌++◌, length, arith}
+use Rattle.lisp_base.specs.Bytes.{apostrophe, backslash, left_parenthesis, newline, number_sign, quotation_mark, right_parenthesis, semicolon}
 use Rattle.lisp_reader.specs.Parts.{Part, Opens, Closes, Quotes, Literal, OpenLiteral, Token', Where', Between, Within, Sharp, Comment, Inside, Escaped, begins_with_quote, is_separator, parts_from, with_token_letter}
 
 -- how many parts have begun already
@@ -35,29 +36,29 @@ parts_length Comment p [] = omega arith
 parts_length (Inside start so_far) p [] = omega arith
 parts_length (Escaped start so_far) p [] = omega arith
 parts_length Comment p (b ∷ bs) =
-    either (b == 10) _ _ (suc (length bs) + 0) (omega (arith, parts_length Between (suc p) bs)) (omega (arith, parts_length Comment (suc p) bs))
+    either (b == newline) _ _ (suc (length bs) + 0) (omega (arith, parts_length Between (suc p) bs)) (omega (arith, parts_length Comment (suc p) bs))
 parts_length (Inside start so_far) p (b ∷ bs) =
-    either (b == 34) _ _ (suc (length bs) + 1) (omega (arith, parts_length Between (suc p) bs))
-    (either (b == 92) _ _ (suc (length bs) + 1) (omega (arith, parts_length (Escaped start so_far) (suc p) bs))
+    either (b == quotation_mark) _ _ (suc (length bs) + 1) (omega (arith, parts_length Between (suc p) bs))
+    (either (b == backslash) _ _ (suc (length bs) + 1) (omega (arith, parts_length (Escaped start so_far) (suc p) bs))
     (omega (arith, parts_length (Inside start (so_far ++ b ∷ [])) (suc p) bs)))
 parts_length (Escaped start so_far) p (b ∷ bs) = omega (arith, parts_length (Inside start (so_far ++ b ∷ [])) (suc p) bs)
 parts_length Sharp p (b ∷ bs) = omega (arith, parts_length Between (suc p) bs)
 parts_length Between p (b ∷ bs) =
     let rest = parts_length Between (suc p) bs in
     either (is_separator b) _ _ (suc (length bs) + 0) (omega (arith, rest))
-    (either (b == 59) _ _ (suc (length bs) + 0) (omega (arith, parts_length Comment (suc p) bs))
-    (either (b == 34) _ _ (suc (length bs) + 0) (omega (arith, parts_length (Inside p []) (suc p) bs))
-    (either (b == 40) _ _ (suc (length bs) + 0) (omega (arith, rest))
-    (either (b == 41) _ _ (suc (length bs) + 0) (omega (arith, rest))
-    (either (b == 39) _ _ (suc (length bs) + 0) (omega (arith, rest))
-    (either ((b == 35) && begins_with_quote bs) _ _ (suc (length bs) + 0) (omega (arith, parts_length Sharp (suc p) bs))
+    (either (b == semicolon) _ _ (suc (length bs) + 0) (omega (arith, parts_length Comment (suc p) bs))
+    (either (b == quotation_mark) _ _ (suc (length bs) + 0) (omega (arith, parts_length (Inside p []) (suc p) bs))
+    (either (b == left_parenthesis) _ _ (suc (length bs) + 0) (omega (arith, rest))
+    (either (b == right_parenthesis) _ _ (suc (length bs) + 0) (omega (arith, rest))
+    (either (b == apostrophe) _ _ (suc (length bs) + 0) (omega (arith, rest))
+    (either ((b == number_sign) && begins_with_quote bs) _ _ (suc (length bs) + 0) (omega (arith, parts_length Sharp (suc p) bs))
     (omega (arith, letter_length p b (parts_from Within (suc p) bs), parts_length Within (suc p) bs))))))))
 parts_length Within p (b ∷ bs) =
     let rest = parts_length Between (suc p) bs in
     either (is_separator b) _ _ (suc (length bs) + 0) (omega (arith, rest))
-    (either (b == 59) _ _ (suc (length bs) + 0) (omega (arith, parts_length Comment (suc p) bs))
-    (either (b == 34) _ _ (suc (length bs) + 0) (omega (arith, parts_length (Inside p []) (suc p) bs))
-    (either (b == 40) _ _ (suc (length bs) + 0) (omega (arith, rest))
-    (either (b == 41) _ _ (suc (length bs) + 0) (omega (arith, rest))
-    (either (b == 39) _ _ (suc (length bs) + 0) (omega (arith, rest))
+    (either (b == semicolon) _ _ (suc (length bs) + 0) (omega (arith, parts_length Comment (suc p) bs))
+    (either (b == quotation_mark) _ _ (suc (length bs) + 0) (omega (arith, parts_length (Inside p []) (suc p) bs))
+    (either (b == left_parenthesis) _ _ (suc (length bs) + 0) (omega (arith, rest))
+    (either (b == right_parenthesis) _ _ (suc (length bs) + 0) (omega (arith, rest))
+    (either (b == apostrophe) _ _ (suc (length bs) + 0) (omega (arith, rest))
     (omega (arith, letter_length p b (parts_from Within (suc p) bs), parts_length Within (suc p) bs)))))))

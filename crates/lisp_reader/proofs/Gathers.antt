@@ -3,10 +3,11 @@ use Rattle.std.specs.Result.{IfErr}
 use Rattle.std.specs.Str.{IsUtf8}
 use Rattle.std.proofs.Common.{◌≡◌, ℕ, ◌≤◌, Result, Ok, Err, IfOk, OnOk, Option, Some, None, inl, inr, map, List, [], ◌∷◌, ◌++◌, length, drop, refl, ap, sym, subst, ◌∙◌, append-nil, append_assoc}
 use Rattle.std.proofs.lemmas.List.{drop_all}
+use Rattle.lisp_base.specs.declared.refusal.Refusal.{Refusal}
+use Rattle.lisp_base.specs.declared.refusal.Rejection.{Rejection}
+use Rattle.lisp_base.specs.declared.refusal.Rejection.TheVariants.{Refused, Memory}
 use Rattle.lisp_reader.specs.declared.gather.Mark.{Mark}
 use Rattle.lisp_reader.specs.declared.opens.Opening.{Opening}
-use Rattle.lisp_reader.specs.declared.refusal.ReadRefusal.{ReadRefusal}
-use Rattle.lisp_reader.specs.declared.refusal.ReadRefusal.TheVariants.{Refused, Memory}
 use Rattle.lisp_reader.specs.declared.scan.PartKind.{PartKind}
 use Rattle.lisp_reader.specs.declared.scan.Scanned.TheVariants.{Found}
 use Rattle.lisp_reader.specs.Gathering.{Gathered, HoldsFront, at_end, faulty, gathered, place_in, taken, unless_fault, with_part, with_parts}
@@ -34,7 +35,7 @@ with_more t [] part = refl
 with_more t (p ∷ ps) part = with_more (with_part t p) ps part
 
 -- a part that is taken without a fault leaves what comes after it
-after_part : (f : Option ℕ) (place : ℕ) (u : Tables) (later : Gathered) → f ≡ None → unless_fault f place u later ≡ later
+after_part : (f : Option Refusal) (place : ℕ) (u : Tables) (later : Gathered) → f ≡ None → unless_fault f place u later ≡ later
 after_part f place u later h = rw h refl
 
 -- behind a part that was taken it goes on
@@ -77,19 +78,19 @@ front_more text at first os t t' marks part later g h more =
     }
 
 -- the fault of a part ends what is gathered
-at_fault : (f : Option ℕ) (place at number : ℕ) (u v : Tables) (later : Gathered) → f ≡ Some number → at ≡ place → v ≡ u
-    → unless_fault f place u later ≡ faulty number at v
-at_fault f place at number u v later h p e = rw (h, p, e) refl
+at_fault : (f : Option Refusal) (place at : ℕ) (refusal : Refusal) (u v : Tables) (later : Gathered) → f ≡ Some refusal → at ≡ place → v ≡ u
+    → unless_fault f place u later ≡ faulty refusal at v
+at_fault f place at refusal u v later h p e = rw (h, p, e) refl
 
 -- what is refused of a part is refused of the text
-pub refused_part : (text : List ℕ) (at next : ℕ) (kind : PartKind) (first : Tables) (os : List Opening) (t t' : Tables) (marks : List Mark) (refusal : ReadRefusal)
+pub refused_part : (text : List ℕ) (at next : ℕ) (kind : PartKind) (first : Tables) (os : List Opening) (t t' : Tables) (marks : List Mark) (refusal : Rejection)
     → Goes text at first os t marks → IsScanned text at (Found kind next) → RefusedPart (part_of text at kind) os t t' refusal
     → IsRefusalOf (parts_of text) first t' refusal
-refused_part text at next kind first os t t' marks (Refused number place) g h r =
+refused_part text at next kind first os t t' marks (Refused refusal place) g h r =
     let part = part_of text at kind in
     let x = taken os t part in
     let later = gathered x.opens x.tables (parts_from Between next (drop next text)) in
-    sym g.same ∙ ap (gathered os t) h.1 ∙ at_fault x.fault (place_in part) place number x.tables t' later r.0 r.1 r.2
+    sym g.same ∙ ap (gathered os t) h.1 ∙ at_fault x.fault (place_in part) place refusal x.tables t' later r.0 r.1 r.2
 refused_part text at next kind first os t t' marks Memory g h (inl same) =
     subst (HoldsFront (parts_of text) first) (sym same) (front_so_far text at first os t marks g)
 refused_part text at next kind first os t t' marks Memory g h (inr more) =
@@ -105,15 +106,15 @@ goes_all text at first os t marks past g =
     )
 
 -- what is refused at the end is what the text comes to
-pub refused_end : {A : Type 0} (text : List ℕ) (at : ℕ) (first : Tables) (os : List Opening) (t : Tables) (marks : List Mark) (result : Result A ReadRefusal)
+pub refused_end : {A : Type 0} (text : List ℕ) (at : ℕ) (first : Tables) (os : List Opening) (t : Tables) (marks : List Mark) (result : Result A Rejection)
     → length text ≤ at → Goes text at first os t marks → IfErr result (IsEndRefusal os t)
     → IfErr result (IsRefusalOf (parts_of text) first t)
 refused_end text at first os t marks (Ok m) past g h = tt
-refused_end text at first os t marks (Err (Refused number place)) past g h = sym (goes_all text at first os t marks past g).0 ∙ h
+refused_end text at first os t marks (Err (Refused refusal place)) past g h = sym (goes_all text at first os t marks past g).0 ∙ h
 refused_end text at first os t marks (Err Memory) past g h = absurd h
 
 -- what is marked at the end are the marks of the text
-pub marked_end : {A : Type 0} (text : List ℕ) (at : ℕ) (first : Tables) (os : List Opening) (t : Tables) (marks : List Mark) (result : Result A ReadRefusal)
+pub marked_end : {A : Type 0} (text : List ℕ) (at : ℕ) (first : Tables) (os : List Opening) (t : Tables) (marks : List Mark) (result : Result A Rejection)
     (items : A → List Mark) → length text ≤ at → Goes text at first os t marks → OnOk result (at_end os t ≡ faultless t) → IfOk result (λ m. items m ≡ marks)
     → IfOk result (λ m. items m ≡ map (mark_of t) (parts_of text))
 marked_end text at first os t marks (Ok m) items past g ends is =

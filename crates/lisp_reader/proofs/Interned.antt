@@ -10,12 +10,13 @@ use Rattle.std.proofs.lemmas.List.Sums.{position_or_len_is}
 use Rattle.std.proofs.lemmas.Map.Views.{Contains-from_any, list_any-from_Contains}
 use Rattle.std.proofs.lemmas.Option.{slice_get-get_or, slice_get_within, get_or_from_slice_get}
 use Rattle.std.proofs.lemmas.Slice.Eq.{bytes_eq-Decides}
+use Rattle.lisp_base.specs.declared.refusal.Refusal.{Refusal}
+use Rattle.lisp_base.specs.declared.refusal.Rejection.{Rejection}
+use Rattle.lisp_base.specs.declared.refusal.Rejection.TheVariants.{Refused}
 use Rattle.symbol_table.specs.Names.{AreDifferent, Interns, IsAdded, IsKnown, IsTable}
 use Rattle.symbol_table.specs.declared.TheConstants.{NAMES}
 use Rattle.symbol_table.specs.declared.error.InternError.{InternError}
 use Rattle.symbol_table.specs.declared.error.InternError.TheVariants.{TooMany, Memory}
-use Rattle.lisp_reader.specs.declared.refusal.ReadRefusal.{ReadRefusal}
-use Rattle.lisp_reader.specs.declared.refusal.ReadRefusal.TheVariants.{Refused}
 use Rattle.lisp_reader.specs.inside.Marking.{IsInterned, IsNotInterned}
 use Rattle.lisp_reader.specs.Tables.{has_room, number_in}
 
@@ -87,6 +88,6 @@ no_room old new name TooMany is full =
 no_room old new name Memory is short = cc
 
 -- a name that has no room is refused
-pub not_interned : (number at : ℕ) (old new : List (List ℕ)) (name : List ℕ) (r : ReadRefusal) → r ≡ Refused number at
-    → (has_room old name ≡ false) × (new ≡ old) → IsNotInterned number at old new name r
-not_interned number at old new name r is h = rw is (h.0, refl, refl, h.1)
+pub not_interned : (refusal : Refusal) (at : ℕ) (old new : List (List ℕ)) (name : List ℕ) (r : Rejection) → r ≡ Refused refusal at
+    → (has_room old name ≡ false) × (new ≡ old) → IsNotInterned refusal at old new name r
+not_interned refusal at old new name r is h = rw is (h.0, refl, refl, h.1)

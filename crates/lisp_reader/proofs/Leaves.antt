@@ -1,11 +1,11 @@
 -- A token that is a leaf is taken, and what a refusal says of a part.
 use Rattle.std.specs.Result.{IfErr}
 use Rattle.std.proofs.Common.{◌≡◌, ℕ, Result, Ok, Err, IsErrAnd, List, [], ◌∷◌, ◌++◌, ap, subst, sym, ◌∙◌}
+use Rattle.lisp_base.specs.declared.refusal.Rejection.{Rejection}
 use Rattle.lisp_data.specs.declared.datum.Leaf.{Leaf}
 use Rattle.lisp_reader.specs.declared.gather.Mark.{Mark}
 use Rattle.lisp_reader.specs.declared.gather.MarkKind.TheVariants.{ALeaf}
 use Rattle.lisp_reader.specs.declared.opens.Opening.{Opening}
-use Rattle.lisp_reader.specs.declared.refusal.ReadRefusal.{ReadRefusal}
 use Rattle.lisp_reader.specs.Gathering.{settled, with_part}
 use Rattle.lisp_reader.specs.inside.Marking.{IsLeaf, RefusedPart, TookPart}
 use Rattle.lisp_reader.specs.Parts.{Part, Token'}
@@ -26,7 +26,7 @@ token_taken letters place os os' old new literals leaf before after l opens' put
     }
 
 -- what is refused of a part is refused of the same part
-pub refused_as : {A : Type 0} (part other : Part) (os : List Opening) (t t' : Tables) (result : Result A ReadRefusal) → other ≡ part
+pub refused_as : {A : Type 0} (part other : Part) (os : List Opening) (t t' : Tables) (result : Result A Rejection) → other ≡ part
     → IfErr result (RefusedPart part os t t') → IfErr result (RefusedPart other os t t')
 refused_as part other os t t' result is h = subst (λ (x : Part). IfErr result (RefusedPart x os t t')) (sym is) h
 
@@ -38,7 +38,7 @@ leaf_used letters place os old new literals leaf l =
     sym (ap (λ t. t.tables) ends) ∙ taken_uses os (tables_of old literals) (Token' place letters) (ap (λ t. t.fault) ends)
 
 -- the error that `?` passes on is the same
-pub passed_on : {A : Type 0} (result : Result A ReadRefusal) (refusal : ReadRefusal) (P : ReadRefusal → Type 0)
+pub passed_on : {A : Type 0} (result : Result A Rejection) (refusal : Rejection) (P : Rejection → Type 0)
     → IsErrAnd result (λ e. e ≡ refusal) → P refusal → IfErr result P
 passed_on (Ok x) refusal P h p = tt
 passed_on (Err e) refusal P h p = rw h p

@@ -1,5 +1,7 @@
 -- A text without a fault in the order of reading spells items.
 use Rattle.std.proofs.Common.{◌≡◌, ℕ, Bool, true, false, cond, List, [], ◌∷◌, ◌++◌, ◌==◌, length, Option, Some, None, refl, ap, subst, sym, ◌∙◌, append_assoc}
+use Rattle.lisp_base.specs.declared.refusal.Refusal.{Refusal}
+use Rattle.lisp_base.specs.declared.refusal.Refusal.TheVariants.{TooDeep, TooManySymbols, TooManyTexts}
 use Rattle.lisp_reader.specs.declared.meaning.Meaning.{Meaning}
 use Rattle.lisp_reader.specs.declared.opens.Opening.{Opening}
 use Rattle.lisp_reader.specs.declared.opens.Opening.TheVariants.{List as AList, Quote as AQuote}
@@ -61,14 +63,14 @@ ended (AList p ∷ os) ps h = h
 ended (AQuote p ∷ os) ps h = ended os ps h
 
 -- without a fault, a choice is the one without
-chosen : (b : Bool) (x y : Taken) (number : ℕ) → x.fault ≡ Some number → (cond b x y).fault ≡ None → cond b x y ≡ y
-chosen true x y number f h = cc
-chosen false x y number f h = refl
+chosen : (b : Bool) (x y : Taken) (refusal : Refusal) → x.fault ≡ Some refusal → (cond b x y).fault ≡ None → cond b x y ≡ y
+chosen true x y refusal f h = cc
+chosen false x y refusal f h = refl
 
 -- the same with the fault second
-kept : (b : Bool) (x y : Taken) (number : ℕ) → y.fault ≡ Some number → (cond b x y).fault ≡ None → cond b x y ≡ x
-kept true x y number f h = refl
-kept false x y number f h = cc
+kept : (b : Bool) (x y : Taken) (refusal : Refusal) → y.fault ≡ Some refusal → (cond b x y).fault ≡ None → cond b x y ≡ x
+kept true x y refusal f h = refl
+kept false x y refusal f h = cc
 
 -- a list in front
 list_inside : (p : ℕ) (os : List Opening) (ps : List Part) → Closed (After os) ps → Inside os (Opens p ∷ ps)
@@ -91,30 +93,30 @@ close_inside q (AQuote p ∷ os) t ps fine h = cc
 -- what is open behind a symbol
 symbol_opens : (o : Option (List ℕ)) (os : List Opening) (t : Tables) → (symbol_ends o os t).fault ≡ None → (symbol_ends o os t).opens ≡ settled os
 symbol_opens None os t h = refl
-symbol_opens (Some name) os t h = ap (λ (x : Taken). x.opens) (kept (has_room t.symbols name) _ _ 8 refl h)
+symbol_opens (Some name) os t h = ap (λ (x : Taken). x.opens) (kept (has_room t.symbols name) _ _ TooManySymbols refl h)
 
 -- what is open behind a token
-token_opens : (letters : List ℕ) (m : Meaning) (f : Option ℕ) (os : List Opening) (t : Tables) → (token_ends letters m f os t).fault ≡ None
+token_opens : (letters : List ℕ) (m : Meaning) (f : Option Refusal) (os : List Opening) (t : Tables) → (token_ends letters m f os t).fault ≡ None
     → (token_ends letters m f os t).opens ≡ settled os
-token_opens letters m (Some number) os t h = cc
+token_opens letters m (Some refusal) os t h = cc
 token_opens letters m None os t h = symbol_opens (symbol_in letters m) os t h
 
 -- a part without a fault in front
 part_inside : (os : List Opening) (t : Tables) (part : Part) (ps : List Part) → (taken os t part).fault ≡ None → Inside (taken os t part).opens ps
     → Inside os (part ∷ ps)
 part_inside os t (Opens p) ps fine h =
-    let is = chosen (length os == 256) _ _ 6 refl fine in
+    let is = chosen (length os == 256) _ _ TooDeep refl fine in
     list_inside p os ps (subst (λ (x : Taken). Inside x.opens ps) is h)
 part_inside os t (Closes q) ps fine h = close_inside q os t ps fine h
 part_inside os t (Quotes function p) ps fine h =
-    let outer = chosen (length os == 256) _ _ 6 refl fine in
+    let outer = chosen (length os == 256) _ _ TooDeep refl fine in
     let fine' = subst (λ (x : Taken). x.fault ≡ None) outer fine in
-    let room = kept (has_room t.symbols (quote_name function)) _ _ 8 refl fine' in
+    let room = kept (has_room t.symbols (quote_name function)) _ _ TooManySymbols refl fine' in
     let fine'' = subst (λ (x : Taken). x.fault ≡ None) room fine' in
-    let last = chosen (length os == 256) _ _ 6 refl fine'' in
+    let last = chosen (length os == 256) _ _ TooDeep refl fine'' in
     quote_inside function p os ps (subst (λ (x : Taken). Inside x.opens ps) (outer ∙ room ∙ last) h)
 part_inside os t (Literal p characters) ps fine h =
-    let is = kept (has_room t.literals characters) _ _ 9 refl fine in
+    let is = kept (has_room t.literals characters) _ _ TooManyTexts refl fine in
     more os (LiteralItem p characters) ps (ended os ps (subst (λ (x : Taken). Inside x.opens ps) is h))
 part_inside os t (OpenLiteral p) ps fine h = cc
 part_inside os t (Token' p letters) ps fine h =
@@ -128,12 +130,12 @@ inside (o ∷ os) t [] h = cc
 inside os t (part ∷ ps) h =
     by (taken os t part).fault refl h (λ g. inside (taken os t part).opens (taken os t part).tables ps g)
   where
-    by : (f : Option ℕ) → (taken os t part).fault ≡ f
+    by : (f : Option Refusal) → (taken os t part).fault ≡ f
         → (unless_fault f (place_in part) (taken os t part).tables (gathered (taken os t part).opens (taken os t part).tables ps)).fault ≡ None
         → ((gathered (taken os t part).opens (taken os t part).tables ps).fault ≡ None → Inside (taken os t part).opens ps)
         → Inside os (part ∷ ps)
     by None is g later = part_inside os t part ps is (later g)
-    by (Some number) is g later = cc
+    by (Some refusal) is g later = cc
 
 -- the items that a text without a fault spells
 pub record Spelled (ps : List Part) : Type 0 where

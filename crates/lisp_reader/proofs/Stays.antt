@@ -4,6 +4,8 @@ use Rattle.std.specs.Str.{bytes_eq}
 use Rattle.std.proofs.Common.{◌≡◌, ℕ, ◌+◌, Bool, true, false, not, ◌||◌, cond, if◌then◌else◌, ◌==◌, List, [], ◌∷◌, ◌++◌, length, map, Option, Some, None, refl, ap, subst, sym, ◌∙◌}
 use Rattle.std.proofs.lemmas.List.Folds.{list_any-append}
 use Rattle.std.proofs.lemmas.Slice.Eq.{bytes_eq-Decides}
+use Rattle.lisp_base.specs.declared.refusal.Refusal.{Refusal}
+use Rattle.lisp_base.specs.declared.refusal.Refusal.TheVariants.{EndInside, TooDeep, TooManySymbols, TooManyTexts, UnmatchedClose}
 use Rattle.lisp_data.specs.declared.datum.Leaf.TheVariants.{Symbol as SymbolLeaf, Text as TextLeaf}
 use Rattle.lisp_reader.specs.declared.gather.MarkKind.TheVariants.{Quote, ALeaf}
 use Rattle.lisp_reader.specs.declared.meaning.Meaning.{Meaning}
@@ -94,8 +96,8 @@ either t part true x y f g = f refl
 either t part false x y f g = g refl
 
 -- nothing more comes of a fault
-took_fault : (t : Tables) (part : Part) (number : ℕ) (os : List Opening) → Took t part (no_more number os t)
-took_fault t part number os = record { extends = same_extends t; knows = λ h. absurd (cc) }
+took_fault : (t : Tables) (part : Part) (refusal : Refusal) (os : List Opening) → Took t part (no_more refusal os t)
+took_fault t part refusal os = record { extends = same_extends t; knows = λ h. absurd (cc) }
 
 -- a symbol comes into the tables
 symbol_extends : (t : Tables) (name : List ℕ) → Extends t (with_symbol name t)
@@ -112,36 +114,36 @@ took_name p letters os t None is = record { extends = same_extends t; knows = λ
 took_name p letters os t (Some name) is =
     either t (Token' p letters) (has_room t.symbols name) _ _
     (λ _. record { extends = symbol_extends t name; knows = λ _. subst (KnowsName (grown t.symbols name)) (sym is) (known_grown t.symbols name) })
-    (λ _. took_fault t (Token' p letters) 8 os)
+    (λ _. took_fault t (Token' p letters) TooManySymbols os)
 
 -- a token
-took_token : (p : ℕ) (letters : List ℕ) (os : List Opening) (t : Tables) (f : Option ℕ) → Took t (Token' p letters) (token_ends letters (meaning_in letters) f os t)
+took_token : (p : ℕ) (letters : List ℕ) (os : List Opening) (t : Tables) (f : Option Refusal) → Took t (Token' p letters) (token_ends letters (meaning_in letters) f os t)
 took_token p letters os t None = took_name p letters os t (symbol_in letters (meaning_in letters)) refl
-took_token p letters os t (Some number) = took_fault t (Token' p letters) number os
+took_token p letters os t (Some refusal) = took_fault t (Token' p letters) refusal os
 
 -- a parenthesis that closes
 took_close : (q : ℕ) (os : List Opening) (t : Tables) (around : Option (List Opening)) → Took t (Closes q) (closing around os t)
-took_close q os t None = took_fault t (Closes q) 3 os
+took_close q os t None = took_fault t (Closes q) UnmatchedClose os
 took_close q os t (Some o) = record { extends = same_extends t; knows = λ _. tt }
 
 -- any part
 took : (os : List Opening) (t : Tables) (part : Part) → Took t part (taken os t part)
 took os t (Opens p) =
-    either t (Opens p) (length os == 256) _ _ (λ _. took_fault t (Opens p) 6 os) (λ _. record { extends = same_extends t; knows = λ _. tt })
+    either t (Opens p) (length os == 256) _ _ (λ _. took_fault t (Opens p) TooDeep os) (λ _. record { extends = same_extends t; knows = λ _. tt })
 took os t (Closes q) = took_close q os t (closed_by os)
 took os t (Quotes function p) =
     let name = quote_name function in
-    either t (Quotes function p) (length os == 256) _ _ (λ _. took_fault t (Quotes function p) 6 os)
+    either t (Quotes function p) (length os == 256) _ _ (λ _. took_fault t (Quotes function p) TooDeep os)
     (λ _. either t (Quotes function p) (has_room t.symbols name) _ _
-    (λ _. either t (Quotes function p) (length os == 256) (no_more 6 os (with_symbol name t)) _
+    (λ _. either t (Quotes function p) (length os == 256) (no_more TooDeep os (with_symbol name t)) _
     (λ _. record { extends = symbol_extends t name; knows = λ _. known_grown t.symbols name })
     (λ _. record { extends = symbol_extends t name; knows = λ _. known_grown t.symbols name }))
-    (λ _. took_fault t (Quotes function p) 8 os))
+    (λ _. took_fault t (Quotes function p) TooManySymbols os))
 took os t (Literal p characters) =
     either t (Literal p characters) (has_room t.literals characters) _ _
     (λ _. record { extends = literal_extends t characters; knows = λ _. known_grown t.literals characters })
-    (λ _. took_fault t (Literal p characters) 9 os)
-took os t (OpenLiteral p) = took_fault t (OpenLiteral p) 2 os
+    (λ _. took_fault t (Literal p characters) TooManyTexts os)
+took os t (OpenLiteral p) = took_fault t (OpenLiteral p) EndInside os
 took os t (Token' p letters) = took_token p letters os t (token_fault (meaning_in letters))
 
 -- the leaf of a token whose name is known stays
@@ -169,15 +171,15 @@ end_extends [] t [] = same_extends t
 end_extends (o ∷ os) t [] = same_extends t
 end_extends os t (part ∷ ps) = by (taken os t part).fault (end_extends (taken os t part).opens (taken os t part).tables ps)
   where
-    by : (f : Option ℕ) → Extends (taken os t part).tables (gathered (taken os t part).opens (taken os t part).tables ps).tables
+    by : (f : Option Refusal) → Extends (taken os t part).tables (gathered (taken os t part).opens (taken os t part).tables ps).tables
         → Extends t (unless_fault f (place_in part) (taken os t part).tables (gathered (taken os t part).opens (taken os t part).tables ps)).tables
     by None later = further_extends t (taken os t part).tables _ (took os t part).extends later
-    by (Some number) later = (took os t part).extends
+    by (Some refusal) later = (took os t part).extends
 
 -- without a fault, a part has none, and what comes after it neither
-parts_fine : (f : Option ℕ) (place : ℕ) (t end : Tables) (later : Gathered) → unless_fault f place t later ≡ faultless end → (f ≡ None) × (later ≡ faultless end)
+parts_fine : (f : Option Refusal) (place : ℕ) (t end : Tables) (later : Gathered) → unless_fault f place t later ≡ faultless end → (f ≡ None) × (later ≡ faultless end)
 parts_fine None place t end later h = (refl, h)
-parts_fine (Some number) place t end later h = let e = ap (λ (g : Gathered). g.fault) h in absurd (cc)
+parts_fine (Some refusal) place t end later h = let e = ap (λ (g : Gathered). g.fault) h in absurd (cc)
 
 -- without a fault, the marks with the tables behind each are those with the tables at the end
 pub marks_stay : (os : List Opening) (t end : Tables) (ps : List Part) → gathered os t ps ≡ faultless end → marks_from os t ps ≡ map (mark_of end) ps

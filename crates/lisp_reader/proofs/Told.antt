@@ -4,8 +4,10 @@ use Rattle.std.proofs.Common.{◌≡◌, ℕ, zero, suc, ◌<◌, ◌≤◌, inl
 use Rattle.std.proofs.lemmas.Bool.Decides.{nat_tests}
 use Rattle.std.proofs.lemmas.List.{take_all}
 use Rattle.std.proofs.lemmas.Str.{IsUtf8-from_is_utf8, is_utf8-from_IsUtf8}
+use Rattle.lisp_base.specs.declared.refusal.Refusal.TheVariants.{NotUtf8, TooLong}
+use Rattle.lisp_base.specs.declared.refusal.Refused.{Refused}
 use Rattle.lisp_data.specs.Data.{each}
-use Rattle.lisp_reader.specs.Gathering.{Fault, gathered, with_parts}
+use Rattle.lisp_reader.specs.Gathering.{gathered, with_parts}
 use Rattle.lisp_reader.specs.Grammar.{data_in}
 use Rattle.lisp_reader.specs.Parts.{parts_of}
 use Rattle.lisp_reader.specs.Reading.{IsReadable, IsRefusable, IsText, ReadOrRefused, in_reading, longest, not_utf8, too_long}
@@ -65,7 +67,7 @@ broken_at bs broken =
 text_told : (bytes : List ℕ) (before : Tables) → IsText bytes → IsReadable bytes before ⊎ IsRefusable bytes before
 text_told bytes before text = by (gathered [] before (parts_of bytes)).fault refl
   where
-    by : (f : Option Fault) → (gathered [] before (parts_of bytes)).fault ≡ f → IsReadable bytes before ⊎ IsRefusable bytes before
+    by : (f : Option Refused) → (gathered [] before (parts_of bytes)).fault ≡ f → IsReadable bytes before ⊎ IsRefusable bytes before
     by None e =
         let s = spells_items before (parts_of bytes) e in
         let after : Tables = with_parts before (parts_of bytes) in
@@ -80,7 +82,7 @@ text_told bytes before text = by (gathered [] before (parts_of bytes)).fault ref
         inr
         (record {
           after = after;
-          number = f.number;
+          refusal = f.refusal;
           place = f.place;
           refused = in_reading text (ap (λ x. record { fault = x; tables = after }) e);
         })
@@ -94,12 +96,12 @@ read_or_refused bytes before = by_length (nat_lt longest (length bytes)) refl
     by_bytes short false e =
         let broken : ¬ IsUtf8 bytes = λ u. true≢false (sym (is_utf8-from_IsUtf8 bytes u) ∙ e) in
         let b = broken_at bytes broken in
-        inr (record { after = before; number = 1; place = b.at; refused = not_utf8 short broken refl b.valid refl })
+        inr (record { after = before; refusal = NotUtf8; place = b.at; refused = not_utf8 short broken refl b.valid refl })
 
     by_length : (b : Bool) → nat_lt longest (length bytes) ≡ b → IsReadable bytes before ⊎ IsRefusable bytes before
     by_length true e =
         let long : longest < length bytes = grind (arith, nat_tests) in
-        inr (record { after = before; number = 7; place = longest; refused = too_long long refl refl refl })
+        inr (record { after = before; refusal = TooLong; place = longest; refused = too_long long refl refl refl })
     by_length false e =
         let short : length bytes ≤ longest = grind (arith, nat_tests) in
         by_bytes short (is_utf8 bytes) refl

@@ -1,5 +1,8 @@
 -- What is gathered of the parts of a text, in the order of reading: the first fault, and the names and literals so far.
 use Rattle.std.specs.Prelude.{◌≡◌, ℕ, List, [], ◌∷◌, ◌++◌, Bool, true, false, ◌==◌, Option, Some, None, if◌then◌else◌, length, codes}
+use Rattle.lisp_base.specs.declared.refusal.Refusal.{Refusal}
+use Rattle.lisp_base.specs.declared.refusal.Refusal.TheVariants.{BadToken, EndInside, NumberTooLarge, TooDeep, TooManySymbols, TooManyTexts, UnmatchedClose}
+use Rattle.lisp_base.specs.declared.refusal.Refused.{Refused}
 use Rattle.lisp_reader.specs.declared.meaning.Meaning.{Meaning}
 use Rattle.lisp_reader.specs.declared.meaning.Meaning.TheVariants.{Integer, Time, Symbol, Keyword, TooLarge, Bad}
 use Rattle.lisp_reader.specs.declared.opens.Opening.{Opening}
@@ -13,18 +16,13 @@ abbrev pub place_of : Opening → ℕ
 place_of (AList p) = p
 place_of (AQuote p) = p
 
--- a fault in the order of reading
-pub record Fault : Type 0 where
-  pub number : ℕ
-  pub place : ℕ
-
--- what reading comes to: a fault or none, and the tables at its end
+-- what reading comes to: the first fault, if there is one, and the tables at its end
 pub record Gathered : Type 0 where
-  pub fault : Option Fault
+  pub fault : Option Refused
   pub tables : Tables
 
-abbrev pub faulty : ℕ → ℕ → Tables → Gathered
-faulty number place t = record { fault = Some (record { number = number; place = place }); tables = t }
+abbrev pub faulty : Refusal → ℕ → Tables → Gathered
+faulty refusal place t = record { fault = Some (record { refusal = refusal; place = place }); tables = t }
 
 abbrev pub with_symbol : List ℕ → Tables → Tables
 with_symbol name t = record t { symbols = grown t.symbols name }
@@ -59,22 +57,22 @@ symbol_in letters TooLarge = None
 symbol_in letters Bad = None
 
 -- the fault of a token by itself
-abbrev pub token_fault : Meaning → Option ℕ
+abbrev pub token_fault : Meaning → Option Refusal
 token_fault (Integer z) = None
 token_fault (Time t) = None
 token_fault (Symbol start) = None
 token_fault Keyword = None
-token_fault TooLarge = Some 5
-token_fault Bad = Some 4
+token_fault TooLarge = Some NumberTooLarge
+token_fault Bad = Some BadToken
 
 -- what is gathered of one part: the fault that it has, and what is open and in the tables after it
 pub record Taken : Type 0 where
-  pub fault : Option ℕ
+  pub fault : Option Refusal
   pub opens : List Opening
   pub tables : Tables
 
-abbrev pub no_more : ℕ → List Opening → Tables → Taken
-no_more number os t = record { fault = Some number; opens = os; tables = t }
+abbrev pub no_more : Refusal → List Opening → Tables → Taken
+no_more refusal os t = record { fault = Some refusal; opens = os; tables = t }
 
 -- a datum ends
 abbrev pub datum_ends : List Opening → Tables → Taken
@@ -82,19 +80,19 @@ datum_ends os t = record { fault = None; opens = settled os; tables = t }
 
 -- something opens, unless it would be nested 257 deep
 abbrev pub opening : Opening → List Opening → Tables → Taken
-opening o os t = if length os == 256 then no_more 6 os t else record { fault = None; opens = o ∷ os; tables = t }
+opening o os t = if length os == 256 then no_more TooDeep os t else record { fault = None; opens = o ∷ os; tables = t }
 
 abbrev pub closing : Option (List Opening) → List Opening → Tables → Taken
-closing None os t = no_more 3 os t
+closing None os t = no_more UnmatchedClose os t
 closing (Some around) os t = datum_ends around t
 
 -- a symbol is used, and the datum ends
 abbrev pub symbol_ends : Option (List ℕ) → List Opening → Tables → Taken
 symbol_ends None os t = datum_ends os t
-symbol_ends (Some name) os t = if has_room t.symbols name then datum_ends os (with_symbol name t) else no_more 8 os t
+symbol_ends (Some name) os t = if has_room t.symbols name then datum_ends os (with_symbol name t) else no_more TooManySymbols os t
 
-abbrev pub token_ends : List ℕ → Meaning → Option ℕ → List Opening → Tables → Taken
-token_ends letters m (Some number) os t = no_more number os t
+abbrev pub token_ends : List ℕ → Meaning → Option Refusal → List Opening → Tables → Taken
+token_ends letters m (Some refusal) os t = no_more refusal os t
 token_ends letters m None os t = symbol_ends (symbol_in letters m) os t
 
 -- One more part. Nesting too deep comes before a table that is full.
@@ -102,11 +100,11 @@ abbrev pub taken : List Opening → Tables → Part → Taken
 taken os t (Opens p) = opening (AList p) os t
 taken os t (Closes q) = closing (closed_by os) os t
 taken os t (Quotes function p) =
-    if length os == 256 then no_more 6 os t
+    if length os == 256 then no_more TooDeep os t
     else if has_room t.symbols (quote_name function) then opening (AQuote p) os (with_symbol (quote_name function) t)
-    else no_more 8 os t
-taken os t (Literal p characters) = if has_room t.literals characters then datum_ends os (with_literal characters t) else no_more 9 os t
-taken os t (OpenLiteral p) = no_more 2 os t
+    else no_more TooManySymbols os t
+taken os t (Literal p characters) = if has_room t.literals characters then datum_ends os (with_literal characters t) else no_more TooManyTexts os t
+taken os t (OpenLiteral p) = no_more EndInside os t
 taken os t (Token' p letters) = token_ends letters (meaning_in letters) (token_fault (meaning_in letters)) os t
 
 -- the place of a part
@@ -121,12 +119,12 @@ place_in (Token' p letters) = p
 -- the text ends inside the innermost that is open, if anything is open
 abbrev pub at_end : List Opening → Tables → Gathered
 at_end [] t = record { fault = None; tables = t }
-at_end (o ∷ os) t = faulty 2 (place_of o) t
+at_end (o ∷ os) t = faulty EndInside (place_of o) t
 
 -- reading ends with a part that has a fault; else what comes after the part counts
-abbrev pub unless_fault : Option ℕ → ℕ → Tables → Gathered → Gathered
+abbrev pub unless_fault : Option Refusal → ℕ → Tables → Gathered → Gathered
 unless_fault None place t later = later
-unless_fault (Some number) place t later = faulty number place t
+unless_fault (Some refusal) place t later = faulty refusal place t
 
 -- what is gathered of parts, where these are open and these are the tables
 abbrev pub gathered : List Opening → Tables → List Part → Gathered

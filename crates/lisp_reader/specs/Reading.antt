@@ -1,9 +1,11 @@
 -- What the reader says of a text.
 use Rattle.std.specs.Prelude.{◌≡◌, ◌⊎◌, ℕ, ◌<◌, ◌≤◌, List, [], None, length}
 use Rattle.std.specs.Str.{IsUtf8, IsValidUpTo}
+use Rattle.lisp_base.specs.declared.refusal.Refusal.{Refusal}
+use Rattle.lisp_base.specs.declared.refusal.Refusal.TheVariants.{NotUtf8, TooLong}
+use Rattle.lisp_base.specs.declared.refusal.Rejection.{Rejection}
+use Rattle.lisp_base.specs.declared.refusal.Rejection.TheVariants.{Refused, Memory}
 use Rattle.lisp_data.specs.Data.{Data, each}
-use Rattle.lisp_reader.specs.declared.refusal.ReadRefusal.{ReadRefusal}
-use Rattle.lisp_reader.specs.declared.refusal.ReadRefusal.TheVariants.{Refused, Memory}
 use Rattle.lisp_reader.specs.Gathering.{faulty, gathered, HoldsFront, with_parts}
 use Rattle.lisp_reader.specs.Grammar.{Items, data_in, spelled}
 use Rattle.lisp_reader.specs.Parts.{parts_of}
@@ -28,17 +30,17 @@ pub record Reads (bytes : List ℕ) (before after : Tables) (read : List Data) :
   pub tables : after ≡ with_parts before (parts_of bytes)
   pub same : read ≡ each (data_in after items)
 
--- A text is refused with this number at this place, by the first of these that applies: it is too long; it is not UTF-8, where the
+-- A text is refused for this reason at this place, by the first of these that applies: it is too long; it is not UTF-8, where the
 -- place is that of the first byte that belongs to no character; it has a fault in the order of reading.
-pub data IsRefused (bytes : List ℕ) (before after : Tables) (number place : ℕ) : Type 0 where
-  too_long : longest < length bytes → number ≡ 7 → place ≡ longest → after ≡ before → IsRefused bytes before after number place
-  not_utf8 : length bytes ≤ longest → ¬ IsUtf8 bytes → number ≡ 1 → IsValidUpTo bytes place → after ≡ before
-      → IsRefused bytes before after number place
-  in_reading : IsText bytes → gathered [] before (parts_of bytes) ≡ faulty number place after → IsRefused bytes before after number place
+pub data IsRefused (bytes : List ℕ) (before after : Tables) (refusal : Refusal) (place : ℕ) : Type 0 where
+  too_long : longest < length bytes → refusal ≡ TooLong → place ≡ longest → after ≡ before → IsRefused bytes before after refusal place
+  not_utf8 : length bytes ≤ longest → ¬ IsUtf8 bytes → refusal ≡ NotUtf8 → IsValidUpTo bytes place → after ≡ before
+      → IsRefused bytes before after refusal place
+  in_reading : IsText bytes → gathered [] before (parts_of bytes) ≡ faulty refusal place after → IsRefused bytes before after refusal place
 
 -- A refusal says why the text is refused. Where memory ran out the tables hold the symbols and literals of the beginning of the text.
-abbrev pub IsRefusal : List ℕ → Tables → Tables → ReadRefusal → Type 0
-IsRefusal bytes before after (Refused number place) = IsRefused bytes before after number place
+abbrev pub IsRefusal : List ℕ → Tables → Tables → Rejection → Type 0
+IsRefusal bytes before after (Refused refusal place) = IsRefused bytes before after refusal place
 IsRefusal bytes before after Memory = HoldsFront (parts_of bytes) before after
 
 -- a text has at most one reading
@@ -50,14 +52,14 @@ OneReading =
 -- a text that is read is not refused
 abbrev pub NeverBoth : Type 0
 NeverBoth =
-    (bytes : List ℕ) (before after after' : Tables) (d : List Data) (number place : ℕ) → Reads bytes before after d
-    → IsRefused bytes before after' number place → ⊥
+    (bytes : List ℕ) (before after after' : Tables) (d : List Data) (refusal : Refusal) (place : ℕ) → Reads bytes before after d
+    → IsRefused bytes before after' refusal place → ⊥
 
--- a text is refused with one number at one place
+-- a text is refused for one reason at one place
 abbrev pub OneRefusal : Type 0
 OneRefusal =
-    (bytes : List ℕ) (before after after' : Tables) (m n p q : ℕ) → IsRefused bytes before after m p → IsRefused bytes before after' n q
-    → (m ≡ n) × (p ≡ q) × (after ≡ after')
+    (bytes : List ℕ) (before after after' : Tables) (r s : Refusal) (p q : ℕ) → IsRefused bytes before after r p → IsRefused bytes before after' s q
+    → (r ≡ s) × (p ≡ q) × (after ≡ after')
 
 -- the text reads as some data
 pub record IsReadable (bytes : List ℕ) (before : Tables) : Type 0 where
@@ -65,12 +67,12 @@ pub record IsReadable (bytes : List ℕ) (before : Tables) : Type 0 where
   pub read : List Data
   pub reads : Reads bytes before after read
 
--- the text is refused with some number at some place
+-- the text is refused for some reason at some place
 pub record IsRefusable (bytes : List ℕ) (before : Tables) : Type 0 where
   pub after : Tables
-  pub number : ℕ
+  pub refusal : Refusal
   pub place : ℕ
-  pub refused : IsRefused bytes before after number place
+  pub refused : IsRefused bytes before after refusal place
 
 -- each text is read or refused
 abbrev pub ReadOrRefused : Type 0

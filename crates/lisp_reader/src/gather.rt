@@ -3,6 +3,7 @@ ghost use Rattle.std.specs.Char.{is_ascii};
 ghost use Rattle.std.specs.List.{list_all};
 ghost use Rattle.std.specs.Result.{IfErr};
 ghost use Rattle.std.specs.Str.{IsUtf8};
+ghost use Rattle.lisp_base.specs.declared.refusal.Refusal.TheVariants.{TooManySymbols, TooManyTexts};
 ghost use Rattle.lisp_reader.specs.Gathering.{at_end, gathered as gathered_of};
 ghost use Rattle.lisp_reader.specs.inside.Marking.{IsEndRefusal, IsInterned, IsLeaf, IsNoLeaf, IsNotInterned, IsRefusalOf, RefusedPart, TookPart, faultless, mark_of};
 ghost use Rattle.lisp_reader.specs.Meanings;
@@ -12,13 +13,10 @@ ghost use Rattle.lisp_reader.specs.Tables.{Tables, tables_of};
 
 use crate::meaning::{Meaning, letters_from, meaning_of};
 use crate::opens::{Opening, Opens};
-use crate::refusal::{
-    BAD_TOKEN, END_INSIDE, NUMBER_TOO_LARGE, ReadRefusal, TOO_DEEP, TOO_MANY_SYMBOLS,
-    TOO_MANY_TEXTS, UNMATCHED_CLOSE,
-};
 use crate::scan::{PartKind, Scanned, scan};
 use lisp_base::id::{Micros, Place, StringId, SymbolId};
 use lisp_base::memory::Memory;
+use lisp_base::refusal::{Refusal, Rejection};
 use lisp_data::datum::Leaf;
 use std::alloc::Global;
 use symbol_table::error::InternError;
@@ -46,26 +44,26 @@ pub struct Mark {
 }
 
 /// The symbol with a name that is used at a place.
-fn symbol(symbols: &mut Symbols, name: &str, place: Place) -> Result<SymbolId, ReadRefusal>
+fn symbol(symbols: &mut Symbols, name: &str, place: Place) -> Result<SymbolId, Rejection>
     ensures interned { IfOk result (IsInterned symbols.old symbols.new name.now) }
-    ensures refused { IfErr result (IsNotInterned 8 place symbols.old symbols.new name.now) }
+    ensures refused { IfErr result (IsNotInterned TooManySymbols place symbols.old symbols.new name.now) }
 {
     match symbols.intern(name) {
         Ok(id) => Ok(id),
-        Err(InternError::TooMany) => Err(ReadRefusal::at(TOO_MANY_SYMBOLS, place)),
-        Err(InternError::Memory) => Err(ReadRefusal::Memory),
+        Err(InternError::TooMany) => Err(Rejection::at(Refusal::TooManySymbols, place)),
+        Err(InternError::Memory) => Err(Rejection::Memory),
     }
 }
 
 /// The string literal with a text that is used at a place.
-fn text(texts: &mut Texts, characters: &str, place: Place) -> Result<StringId, ReadRefusal>
+fn text(texts: &mut Texts, characters: &str, place: Place) -> Result<StringId, Rejection>
     ensures interned { IfOk result (IsInterned texts.old texts.new characters.now) }
-    ensures refused { IfErr result (IsNotInterned 9 place texts.old texts.new characters.now) }
+    ensures refused { IfErr result (IsNotInterned TooManyTexts place texts.old texts.new characters.now) }
 {
     match texts.intern(characters) {
         Ok(id) => Ok(id),
-        Err(InternError::TooMany) => Err(ReadRefusal::at(TOO_MANY_TEXTS, place)),
-        Err(InternError::Memory) => Err(ReadRefusal::Memory),
+        Err(InternError::TooMany) => Err(Rejection::at(Refusal::TooManyTexts, place)),
+        Err(InternError::Memory) => Err(Rejection::Memory),
     }
 }
 
@@ -87,10 +85,10 @@ fn spelled(
     letters: &[u8],
     place: Place,
     symbols: &mut Symbols,
-) -> Result<SymbolId, ReadRefusal>
+) -> Result<SymbolId, Rejection>
     requires { IsTrue (list_all is_ascii letters.now) }
     ensures interned { IfOk result (IsInterned symbols.old symbols.new (Meanings.upper letters.now)) }
-    ensures refused { IfErr result (IsNotInterned 8 place symbols.old symbols.new (Meanings.upper letters.now)) }
+    ensures refused { IfErr result (IsNotInterned TooManySymbols place symbols.old symbols.new (Meanings.upper letters.now)) }
 {
     let name = upper(alloc, letters)?;
     symbol(symbols, &name, place)
@@ -102,7 +100,7 @@ fn token_leaf(
     letters: &[u8],
     place: Place,
     symbols: &mut Symbols,
-) -> Result<Leaf, ReadRefusal>
+) -> Result<Leaf, Rejection>
     ensures leaf { IfOk result (IsLeaf letters.now symbols.old symbols.new) }
     ensures refused { IfErr result (IsNoLeaf letters.now place symbols.old symbols.new) }
 {
@@ -118,8 +116,8 @@ fn token_leaf(
             let id = spelled(alloc, letters, place, symbols)?;
             Ok(Leaf::Symbol(id))
         }
-        Meaning::TooLarge => Err(ReadRefusal::at(NUMBER_TOO_LARGE, place)),
-        Meaning::Bad => Err(ReadRefusal::at(BAD_TOKEN, place)),
+        Meaning::TooLarge => Err(Rejection::at(Refusal::NumberTooLarge, place)),
+        Meaning::Bad => Err(Rejection::at(Refusal::BadToken, place)),
     }
 }
 
@@ -160,12 +158,12 @@ impl Gatherer {
     }
 
     /// Takes the parenthesis that opens a list.
-    fn take_open(&mut self, place: Place) -> Result<(), ReadRefusal>
+    fn take_open(&mut self, place: Place) -> Result<(), Rejection>
         ensures took { (t : Tables) → IfOk result (λ _. TookPart (OpensPart place) self.old.opens self.new.opens t t self.old.marks.items self.new.marks.items) }
         ensures refused { (t : Tables) → IfErr result (RefusedPart (OpensPart place) self.old.opens t t) }
     {
         if self.opens.is_full() {
-            return Err(ReadRefusal::at(TOO_DEEP, place));
+            return Err(Rejection::at(Refusal::TooDeep, place));
         }
         self.opens.push(Opening::List(place))?;
         self.put(MarkKind::Open, place)?;
@@ -173,12 +171,12 @@ impl Gatherer {
     }
 
     /// Takes the parenthesis that closes a list.
-    fn take_close(&mut self, place: Place) -> Result<(), ReadRefusal>
+    fn take_close(&mut self, place: Place) -> Result<(), Rejection>
         ensures took { (t : Tables) → IfOk result (λ _. TookPart (Closes place) self.old.opens self.new.opens t t self.old.marks.items self.new.marks.items) }
         ensures refused { (t : Tables) → IfErr result (RefusedPart (Closes place) self.old.opens t t) }
     {
         if !self.opens.close() {
-            return Err(ReadRefusal::at(UNMATCHED_CLOSE, place));
+            return Err(Rejection::at(Refusal::UnmatchedClose, place));
         }
         self.opens.settle();
         self.put(MarkKind::Close, place)?;
@@ -191,12 +189,12 @@ impl Gatherer {
         function: bool,
         place: Place,
         symbols: &mut Symbols,
-    ) -> Result<(), ReadRefusal>
+    ) -> Result<(), Rejection>
         ensures took { (literals : List (List ℕ)) → IfOk result (λ _. TookPart (Quotes function place) self.old.opens self.new.opens (tables_of symbols.old literals) (tables_of symbols.new literals) self.old.marks.items self.new.marks.items) }
         ensures refused { (literals : List (List ℕ)) → IfErr result (RefusedPart (Quotes function place) self.old.opens (tables_of symbols.old literals) (tables_of symbols.new literals)) }
     {
         if self.opens.is_full() {
-            return Err(ReadRefusal::at(TOO_DEEP, place));
+            return Err(Rejection::at(Refusal::TooDeep, place));
         }
         let name = if function { "FUNCTION" } else { "QUOTE" };
         let id = symbol(symbols, name, place)?;
@@ -211,7 +209,7 @@ impl Gatherer {
         characters: &str,
         place: Place,
         texts: &mut Texts,
-    ) -> Result<(), ReadRefusal>
+    ) -> Result<(), Rejection>
         ensures took { (symbols : List (List ℕ)) → IfOk result (λ _. TookPart (Literal place characters.now) self.old.opens self.new.opens (tables_of symbols texts.old) (tables_of symbols texts.new) self.old.marks.items self.new.marks.items) }
         ensures refused { (symbols : List (List ℕ)) → IfErr result (RefusedPart (Literal place characters.now) self.old.opens (tables_of symbols texts.old) (tables_of symbols texts.new)) }
     {
@@ -228,7 +226,7 @@ impl Gatherer {
         letters: &[u8],
         place: Place,
         symbols: &mut Symbols,
-    ) -> Result<(), ReadRefusal>
+    ) -> Result<(), Rejection>
         ensures took { (literals : List (List ℕ)) → IfOk result (λ _. TookPart (Token' place letters.now) self.old.opens self.new.opens (tables_of symbols.old literals) (tables_of symbols.new literals) self.old.marks.items self.new.marks.items) }
         ensures refused { (literals : List (List ℕ)) → IfErr result (RefusedPart (Token' place letters.now) self.old.opens (tables_of symbols.old literals) (tables_of symbols.new literals)) }
     {
@@ -247,7 +245,7 @@ impl Gatherer {
         kind: &PartKind,
         symbols: &mut Symbols,
         texts: &mut Texts,
-    ) -> Result<(), ReadRefusal>
+    ) -> Result<(), Rejection>
         requires { at < 2 ^ 32 }
         ensures took { IfOk result (λ _. TookPart (part_of text.now at kind.now) self.old.opens self.new.opens (tables_of symbols.old texts.old) (tables_of symbols.new texts.new) self.old.marks.items self.new.marks.items) }
         ensures refused { IfErr result (RefusedPart (part_of text.now at kind.now) self.old.opens (tables_of symbols.old texts.old) (tables_of symbols.new texts.new)) }
@@ -258,7 +256,7 @@ impl Gatherer {
             PartKind::Close => self.take_close(place),
             PartKind::Quote(function) => self.take_quote(*function, place, symbols),
             PartKind::Text(characters) => self.take_literal(characters, place, texts),
-            PartKind::OpenText => Err(ReadRefusal::at(END_INSIDE, place)),
+            PartKind::OpenText => Err(Rejection::at(Refusal::EndInside, place)),
             PartKind::Token(count) => {
                 self.take_token(alloc, letters_at(text, at, *count), place, symbols)
             }
@@ -266,13 +264,13 @@ impl Gatherer {
     }
 
     /// The marks, at the end of a text, where nothing is open.
-    fn finish(self) -> Result<Vec<Mark>, ReadRefusal>
+    fn finish(self) -> Result<Vec<Mark>, Rejection>
         ensures ends { (t : Tables) → OnOk result (at_end self.opens t ≡ faultless t) }
         ensures marks { IfOk result (λ marks. marks.items ≡ self.marks.items) }
         ensures refused { (t : Tables) → IfErr result (IsEndRefusal self.opens t) }
     {
         match self.opens.innermost() {
-            Some(place) => Err(ReadRefusal::at(END_INSIDE, place)),
+            Some(place) => Err(Rejection::at(Refusal::EndInside, place)),
             None => Ok(self.marks),
         }
     }
@@ -284,7 +282,7 @@ pub fn gather(
     text: &[u8],
     symbols: &mut Symbols,
     texts: &mut Texts,
-) -> Result<Vec<Mark>, ReadRefusal>
+) -> Result<Vec<Mark>, Rejection>
     requires whole { IsUtf8 text.now }
     requires short { length text.now < 2 ^ 32 }
     ensures gathered { OnOk result (gathered_of [] (tables_of symbols.old texts.old) (parts_of text.now) ≡ faultless (tables_of symbols.new texts.new)) }

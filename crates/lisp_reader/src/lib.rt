@@ -7,6 +7,5 @@ mod meaning;
 mod opens;
 pub mod print;
 pub mod reader;
-pub mod refusal;
 mod scan;
 mod stack;

@@ -6,8 +6,8 @@ ghost use Rattle.lisp_reader.specs.Tokens.{RunsAreTokens, TokensAreRuns};
 
 use crate::build::nodes_of;
 use crate::gather::gather;
-use crate::refusal::{NOT_UTF8, ReadRefusal, TOO_LONG};
 use lisp_base::id::Place;
+use lisp_base::refusal::{Refusal, Rejection};
 use lisp_data::datum::Datum;
 use lisp_data::split::split;
 use std::alloc::Global;
@@ -25,15 +25,15 @@ pub fn read_program(
     text: &[u8],
     symbols: &mut Symbols,
     texts: &mut Texts,
-) -> Result<Vec<Datum>, ReadRefusal>
+) -> Result<Vec<Datum>, Rejection>
     ensures read { IfOk result (λ read. Reads text.now (tables_of symbols.old texts.old) (tables_of symbols.new texts.new) read.items) }
     ensures refused { IfErr result (IsRefusal text.now (tables_of symbols.old texts.old) (tables_of symbols.new texts.new)) }
 {
     if text.len() > LONGEST {
-        return Err(ReadRefusal::at(TOO_LONG, Place(LONGEST as u32)));
+        return Err(Rejection::at(Refusal::TooLong, Place(LONGEST as u32)));
     }
     if let Err(error) = str::from_utf8(text) {
-        return Err(ReadRefusal::at(NOT_UTF8, Place(error.valid_up_to() as u32)));
+        return Err(Rejection::at(Refusal::NotUtf8, Place(error.valid_up_to() as u32)));
     }
     let marks = gather(alloc, text, symbols, texts)?;
     let nodes = nodes_of(alloc, marks.as_slice())?;
@@ -56,7 +56,7 @@ pub fn never_both()
     ensures { NeverBoth }
 {}
 
-/// A text is refused with one number at one place.
+/// A text is refused for one reason at one place.
 pub fn one_refusal()
     ensures { OneRefusal }
 {}

@@ -66,14 +66,14 @@ answered never once accepted bytes (Ran run) h = record {
   says = h;
   headline = λ _. (h.0, run_text bytes run h.1);
   complete = λ tables program a reads. ran_status bytes run h.1;
-  refuses = λ number place a refused. absurd (never bytes (tables_of run.symbols run.texts) h.1.program number place h.1.reads refused);
+  refuses = λ refusal place a refused. absurd (never bytes (tables_of run.symbols run.texts) h.1.program refusal place h.1.reads refused);
   refuses_words = λ a. absurd (both accepted h.0 a);
 }
-answered never once accepted bytes (Refused number place) h = record {
+answered never once accepted bytes (Refused refusal place) h = record {
   says = h;
   headline = λ s. absurd (no_run 4 s refl);
-  complete = λ tables program a reads. absurd (never bytes tables program number place reads h.1);
-  refuses = λ n p a refused. let same = once bytes number n place p h.1 refused in ap (λ x. Refused x place) same.0 ∙ ap (λ x. Refused n x) same.1;
+  complete = λ tables program a reads. absurd (never bytes tables program refusal place reads h.1);
+  refuses = λ n p a refused. let same = once bytes refusal n place p h.1 refused in ap (λ x. Refused x place) same.0 ∙ ap (λ x. Refused n x) same.1;
   refuses_words = λ a. absurd (both accepted h.0 a);
 }
 answered never once accepted bytes RefusedWords h = record {

@@ -1,12 +1,14 @@
--- Bytes are one program, or are refused with one number at one place.
+-- Bytes are one program, or are refused for one reason at one place.
 use Rattle.std.proofs.Common.{◌≡◌, ℕ, inl, inr, ◌⊎◌, List, Option, Some, None, refl, ap, subst, sym, ◌∙◌}
+use Rattle.lisp_base.specs.declared.refusal.Refusal.{Refusal}
+use Rattle.lisp_base.specs.declared.refusal.Refusal.TheVariants.{NotBuilt}
 use Rattle.lisp_program.specs.Program.{Program}
 use Rattle.lisp_data.specs.Data.{Data}
 use Rattle.lisp_reader.specs.Reading.{IsReadable, IsRefusable, NeverBoth as NeverBothText, OneReading, OneRefusal as OneRefusalOfText, ReadOrRefused, Reads as ReadsData}
 use Rattle.lisp_reader.specs.Tables.{Tables}
 use Rattle.lisp_forms.specs.Program.{Expands, IsRefused as IsRefusedData}
 use Rattle.plain_program.specs.Plain.{first_unbuilt, plain_program}
-use Rattle.lisp_session.specs.Programs.{IsNoProgram, IsProgram, NeverBoth, OneProgram, OneRefusal, ProgramOrRefused, as_data, as_text, as_unbuilt, first_tables, not_built}
+use Rattle.lisp_session.specs.Programs.{IsNoProgram, IsProgram, NeverBoth, OneProgram, OneRefusal, ProgramOrRefused, as_data, as_text, as_unbuilt, first_tables}
 use Rattle.lisp_session.proofs.Wholes.{IsNoWhole, IsWhole, not_refused, once_refused, one_whole, whole_or_refused}
 
 -- a whole program is a program, or a form of it is not run yet
@@ -21,7 +23,7 @@ whole_told bytes r w = by (first_unbuilt w.whole.forms) refl
           program = plain_program w.whole;
           reads = record { read = r.read; reads = r.reads; whole = w.whole; expands = w.expands; built = e; is = refl };
         })
-    by (Some place) e = inr (record { number = not_built; place = place; refused = as_unbuilt r.after r.read w.whole r.reads w.expands e refl })
+    by (Some place) e = inr (record { refusal = NotBuilt; place = place; refused = as_unbuilt r.after r.read w.whole r.reads w.expands e refl })
 
 -- what is read is a program, or something in it is refused
 read_told : (bytes : List ℕ) → IsReadable bytes first_tables → IsProgram bytes ⊎ IsNoProgram bytes
@@ -29,7 +31,7 @@ read_told bytes r = by (whole_or_refused r.after.symbols r.after.literals r.read
   where
     by : IsWhole r.after.symbols r.after.literals r.read ⊎ IsNoWhole r.after.symbols r.after.literals r.read → IsProgram bytes ⊎ IsNoProgram bytes
     by (inl w) = whole_told bytes r w
-    by (inr n) = inr (record { number = n.number; place = n.place; refused = as_data r.after r.read r.reads n.refused })
+    by (inr n) = inr (record { refusal = n.refusal; place = n.place; refused = as_data r.after r.read r.reads n.refused })
 
 -- all bytes are a program or are refused
 pub program_or_refused : ReadOrRefused → ProgramOrRefused
@@ -37,7 +39,7 @@ program_or_refused told bytes = by (told bytes first_tables)
   where
     by : IsReadable bytes first_tables ⊎ IsRefusable bytes first_tables → IsProgram bytes ⊎ IsNoProgram bytes
     by (inl r) = read_told bytes r
-    by (inr r) = inr (record { number = r.number; place = r.place; refused = as_text r.after r.refused })
+    by (inr r) = inr (record { refusal = r.refusal; place = r.place; refused = as_text r.after r.refused })
 
 -- what holds of one reading of these bytes holds of the other
 same_read : OneReading → (bytes : List ℕ) (t u : Tables) (d e : List Data) (P : Tables → List Data → Type 0) → ReadsData bytes first_tables t d
@@ -52,11 +54,11 @@ same_whole one bytes t u d e p q r s x y =
     one_whole t.symbols t.literals d p q x (same_read one bytes t u d e (λ (v : Tables) f. Expands v.symbols v.literals f q) r s y)
 
 -- bytes that stand for a whole program are not refused as data
-whole_not_refused : OneReading → (bytes : List ℕ) (t u : Tables) (d e : List Data) (p : Program) (number place : ℕ) → ReadsData bytes first_tables t d
-    → ReadsData bytes first_tables u e → Expands t.symbols t.literals d p → IsRefusedData u.symbols u.literals e number place → ⊥
-whole_not_refused one bytes t u d e p number place r s x found =
-    not_refused t.symbols t.literals d p number place x
-    (same_read one bytes t u d e (λ (v : Tables) f. IsRefusedData v.symbols v.literals f number place) r s found)
+whole_not_refused : OneReading → (bytes : List ℕ) (t u : Tables) (d e : List Data) (p : Program) (refusal : Refusal) (place : ℕ) → ReadsData bytes first_tables t d
+    → ReadsData bytes first_tables u e → Expands t.symbols t.literals d p → IsRefusedData u.symbols u.literals e refusal place → ⊥
+whole_not_refused one bytes t u d e p refusal place r s x found =
+    not_refused t.symbols t.literals d p refusal place x
+    (same_read one bytes t u d e (λ (v : Tables) f. IsRefusedData v.symbols v.literals f refusal place) r s found)
 
 -- bytes are at most one program
 pub one_program : OneReading → OneProgram
@@ -79,7 +81,7 @@ place_once found p q e f = sym (ap place_in e) ∙ ap place_in f
 place_some : (found : Option ℕ) (p : ℕ) → found ≡ None → found ≡ Some p → ⊥
 place_some found p e h = let none : None ≡ Some p = sym e ∙ h in cc
 
--- bytes are refused with one number at one place
+-- bytes are refused for one reason at one place
 pub one_refusal : OneReading → OneRefusalOfText → NeverBothText → OneRefusal
 one_refusal one only never bytes m n p q (as_text t a) (as_text u b) = let same = only bytes first_tables t u m n p q a b in (same.0, same.1)
 one_refusal one only never bytes m n p q (as_text t a) (as_data u d r b) = absurd (never bytes first_tables u t d m p r a)
@@ -99,9 +101,9 @@ one_refusal one only never bytes m n p q (as_unbuilt t d v r x a k) (as_unbuilt 
 
 -- no bytes are both a program and refused
 pub never_both : OneReading → NeverBothText → NeverBoth
-never_both one never bytes tables program number place r (as_text t refused) = never bytes first_tables tables t r.read number place r.reads refused
-never_both one never bytes tables program number place r (as_data t d s found) =
-    whole_not_refused one bytes tables t r.read d r.whole number place r.reads s r.expands found
-never_both one never bytes tables program number place r (as_unbuilt t d w s x found e) =
+never_both one never bytes tables program refusal place r (as_text t refused) = never bytes first_tables tables t r.read refusal place r.reads refused
+never_both one never bytes tables program refusal place r (as_data t d s found) =
+    whole_not_refused one bytes tables t r.read d r.whole refusal place r.reads s r.expands found
+never_both one never bytes tables program refusal place r (as_unbuilt t d w s x found e) =
     let whole : r.whole ≡ w = same_whole one bytes tables t r.read d r.whole w r.reads s r.expands x in
     place_some (first_unbuilt r.whole.forms) place r.built (ap (λ (z : Program). first_unbuilt z.forms) whole ∙ found)

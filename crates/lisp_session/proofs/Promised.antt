@@ -1,6 +1,7 @@
 -- What a top call promises, from how it ends.
 use Rattle.std.proofs.Common.{◌≡◌, ℕ, ◌<◌, ◌≤◌, inl, inr, ◌⊎◌, List, [], ◌∷◌, ◌++◌, Bool, true, false, Option, Some, None, length, length-append, append-nil, refl, ap, sym, subst, ◌∙◌, suc, arith}
 use Rattle.std.specs.Io.KnownBytes.{Appends, Consumes, Keeps}
+use Rattle.lisp_base.specs.declared.refusal.Refusal.{Refusal}
 use Rattle.lisp_edge.specs.Faults.{Rose}
 use Rattle.plain_program.specs.Program.{PlainProgram}
 use Rattle.lisp_reader.specs.Reading.{too_long, not_utf8, in_reading, longest}
@@ -36,31 +37,31 @@ longer : (bytes rest all : List ℕ) → all ≡ bytes ++ rest → longest < len
 longer bytes rest all e h = omega (arith, length-append bytes rest, ap length e)
 
 -- bytes after which nothing is left are all
-whole_refused : (all rest bytes : List ℕ) (number place : ℕ) → all ≡ bytes ++ rest → Some rest ≡ Some [] → IsRefused bytes number place
-    → IsRefused all number place
-whole_refused all rest bytes number place e none refused =
+whole_refused : (all rest bytes : List ℕ) (refusal : Refusal) (place : ℕ) → all ≡ bytes ++ rest → Some rest ≡ Some [] → IsRefused bytes refusal place
+    → IsRefused all refusal place
+whole_refused all rest bytes refusal place e none refused =
     let nothing : rest ≡ [] = cc in
-    subst (λ t. IsRefused t number place) (sym (e ∙ ap (λ t. bytes ++ t) nothing ∙ append-nil bytes)) refused
+    subst (λ t. IsRefused t refusal place) (sym (e ∙ ap (λ t. bytes ++ t) nothing ∙ append-nil bytes)) refused
 
 -- why the bytes are refused is why all that was left is
-is_refused : (left left' : Option (List ℕ)) (bytes : List ℕ) (number place : ℕ) → WereRead left left' bytes
-    → IsRefused bytes number place → IsRefusedText left number place
-is_refused None left' bytes number place r refused = tt
-is_refused (Some all) None bytes number place r refused = absurd r.taken.taken
-is_refused (Some all) (Some rest) bytes number place r (as_text tables (too_long long n p same)) =
+is_refused : (left left' : Option (List ℕ)) (bytes : List ℕ) (refusal : Refusal) (place : ℕ) → WereRead left left' bytes
+    → IsRefused bytes refusal place → IsRefusedText left refusal place
+is_refused None left' bytes refusal place r refused = tt
+is_refused (Some all) None bytes refusal place r refused = absurd r.taken.taken
+is_refused (Some all) (Some rest) bytes refusal place r (as_text tables (too_long long n p same)) =
     as_text tables (too_long (longer bytes rest all r.taken.taken long) n p same)
-is_refused (Some all) (Some rest) bytes number place r (as_text tables (not_utf8 short broken n p same)) =
-    whole_refused all rest bytes number place r.taken.taken (r.ended short) (as_text tables (not_utf8 short broken n p same))
-is_refused (Some all) (Some rest) bytes number place r (as_text tables (in_reading text found)) =
-    whole_refused all rest bytes number place r.taken.taken (r.ended text.short) (as_text tables (in_reading text found))
-is_refused (Some all) (Some rest) bytes number place r (as_data tables read reads found) =
-    whole_refused all rest bytes number place r.taken.taken (r.ended reads.text.short) (as_data tables read reads found)
-is_refused (Some all) (Some rest) bytes number place r (as_unbuilt tables read whole reads x found e) =
-    whole_refused all rest bytes number place r.taken.taken (r.ended reads.text.short) (as_unbuilt tables read whole reads x found e)
+is_refused (Some all) (Some rest) bytes refusal place r (as_text tables (not_utf8 short broken n p same)) =
+    whole_refused all rest bytes refusal place r.taken.taken (r.ended short) (as_text tables (not_utf8 short broken n p same))
+is_refused (Some all) (Some rest) bytes refusal place r (as_text tables (in_reading text found)) =
+    whole_refused all rest bytes refusal place r.taken.taken (r.ended text.short) (as_text tables (in_reading text found))
+is_refused (Some all) (Some rest) bytes refusal place r (as_data tables read reads found) =
+    whole_refused all rest bytes refusal place r.taken.taken (r.ended reads.text.short) (as_data tables read reads found)
+is_refused (Some all) (Some rest) bytes refusal place r (as_unbuilt tables read whole reads x found e) =
+    whole_refused all rest bytes refusal place r.taken.taken (r.ended reads.text.short) (as_unbuilt tables read whole reads x found e)
 
-refuses_text : (left left' : Option (List ℕ)) (bytes : List ℕ) (number place : ℕ) → WereRead left left' bytes → IsRefused bytes number place
-    → RefusesText left left' bytes number place
-refuses_text left left' bytes number place r refused = record { read = r; refused = refused; source = is_refused left left' bytes number place r refused }
+refuses_text : (left left' : Option (List ℕ)) (bytes : List ℕ) (refusal : Refusal) (place : ℕ) → WereRead left left' bytes → IsRefused bytes refusal place
+    → RefusesText left left' bytes refusal place
+refuses_text left left' bytes refusal place r refused = record { read = r; refused = refused; source = is_refused left left' bytes refusal place r refused }
 
 -- what was read, where the words are accepted
 were_read : (accepted : Bool) (left left' : Option (List ℕ)) (bytes : List ℕ) → ReadsFor accepted left left' bytes → accepted ≡ true
@@ -73,8 +74,8 @@ is_answer : (accepted : Bool) (left left' : Option (List ℕ)) (bytes : List ℕ
     → Says accepted bytes answer → IsAnswer accepted left left' (answer_text answer)
 is_answer accepted left left' bytes (Ran run) r h =
     of_a_run bytes run.report.status h.0 (is_whole left left' bytes (were_read accepted left left' bytes r h.0) h.1.reads.reads.text.short) (run_text bytes run h.1)
-is_answer accepted left left' bytes (Refused number place) r h =
-    of_a_refusal bytes number place h.0 (refuses_text left left' bytes number place (were_read accepted left left' bytes r h.0) h.1)
+is_answer accepted left left' bytes (Refused refusal place) r h =
+    of_a_refusal bytes refusal place h.0 (refuses_text left left' bytes refusal place (were_read accepted left left' bytes r h.0) h.1)
 is_answer accepted left left' bytes RefusedWords r h = of_words h
 
 -- a front of the text of an answer
@@ -116,8 +117,8 @@ told_reads left left' bytes all tables program w e h =
     subst (λ t. Reads t tables program) (told_whole all bytes left' whole) h
 
 -- what the source tells is refused
-told_refused : (left : Option (List ℕ)) (all : List ℕ) (number place : ℕ) → IsRefusedText left number place → left ≡ Some all → IsRefused all number place
-told_refused left all number place h e = subst (λ (x : Option (List ℕ)). IsRefusedText x number place) e h
+told_refused : (left : Option (List ℕ)) (all : List ℕ) (refusal : Refusal) (place : ℕ) → IsRefusedText left refusal place → left ≡ Some all → IsRefused all refusal place
+told_refused left all refusal place h e = subst (λ (x : Option (List ℕ)). IsRefusedText x refusal place) e h
 
 -- the text of a run was written
 promised_run : NeverBoth → (accepted : Bool) (left left' : Option (List ℕ)) (reads reads' : ℕ) (held held' : Option (List ℕ)) (writes writes' : ℕ) (bytes : List ℕ)
@@ -137,8 +138,8 @@ promised_run never accepted left left' reads reads' held held' writes writes' by
       memory = λ e. absurd (no.4 e);
       others = run_is_status status s;
       complete = λ all tables program b e read no_read no_write. inl s;
-      refuses = λ all number place b e refused no_read no_write.
-          absurd (never all (tables_of run.symbols run.texts) h.program number place (told_reads left left' bytes all _ h.program whole e h.reads) refused);
+      refuses = λ all refusal place b e refused no_read no_write.
+          absurd (never all (tables_of run.symbols run.texts) h.program refusal place (told_reads left left' bytes all _ h.program whole e h.reads) refused);
       refuses_words = λ b no_write. absurd (both accepted a b);
       no_read_fault = λ _. kept;
       no_write_fault = λ _. w.kept;
@@ -148,20 +149,20 @@ promised_run never accepted left left' reads reads' held held' writes writes' by
 
 -- the line of a refusal was written
 promised_refusal : NeverBoth → (accepted : Bool) (left left' : Option (List ℕ)) (reads reads' : ℕ) (held held' : Option (List ℕ)) (writes writes' : ℕ) (bytes : List ℕ)
-    (number place status : ℕ) → reads' ≡ reads → WereRead left left' bytes → accepted ≡ true → IsRefused bytes number place
-    → WroteWhole held held' writes writes' (refusal_line number place) → status ≡ 4
+    (refusal : Refusal) (place status : ℕ) → reads' ≡ reads → WereRead left left' bytes → accepted ≡ true → IsRefused bytes refusal place
+    → WroteWhole held held' writes writes' (refusal_line refusal place) → status ≡ 4
     → Promise accepted left left' reads reads' held held' writes writes' status
-promised_refusal never accepted left left' reads reads' held held' writes writes' bytes number place status kept r a h w is =
+promised_refusal never accepted left left' reads reads' held held' writes writes' bytes refusal place status kept r a h w is =
     record {
       headline = λ s. absurd ((not_run status s).1 is);
       refused_words = λ e. absurd (omega arith);
-      refused_program = λ _. (a, record { bytes = bytes; number = number; place = place; refuses = refuses_text left left' bytes number place r h; sink = w.sink });
+      refused_program = λ _. (a, record { bytes = bytes; refusal = refusal; place = place; refuses = refuses_text left left' bytes refusal place r h; sink = w.sink });
       read_fault = λ e. absurd (omega arith);
       write_fault = λ e. absurd (omega arith);
       memory = λ e. absurd (omega arith);
       others = inr (inr (inr (inl is)));
       complete = λ all tables program b e read no_read no_write.
-          absurd (never all tables program number place read (told_refused left all number place (is_refused left left' bytes number place r h) e));
+          absurd (never all tables program refusal place read (told_refused left all refusal place (is_refused left left' bytes refusal place r h) e));
       refuses = λ all n p b e refused no_read no_write. inl is;
       refuses_words = λ b no_write. absurd (both accepted a b);
       no_read_fault = λ _. kept;
@@ -199,8 +200,8 @@ promised_answer : NeverBoth → (accepted : Bool) (left left' : Option (List ℕ
     → Promise accepted left left' reads reads' held held' writes writes' status
 promised_answer never accepted left left' reads reads' held held' writes writes' bytes (Ran run) status kept r h w is =
     promised_run never accepted left left' reads reads' held held' writes writes' bytes run status kept (were_read accepted left left' bytes r h.0) h.0 h.1 w is
-promised_answer never accepted left left' reads reads' held held' writes writes' bytes (Refused number place) status kept r h w is =
-    promised_refusal never accepted left left' reads reads' held held' writes writes' bytes number place status kept (were_read accepted left left' bytes r h.0) h.0 h.1 w is
+promised_answer never accepted left left' reads reads' held held' writes writes' bytes (Refused refusal place) status kept r h w is =
+    promised_refusal never accepted left left' reads reads' held held' writes writes' bytes refusal place status kept (were_read accepted left left' bytes r h.0) h.0 h.1 w is
 promised_answer never accepted left left' reads reads' held held' writes writes' bytes RefusedWords status kept r h w is =
     promised_words accepted left left' reads reads' held held' writes writes' status kept h w is
 

@@ -1,5 +1,6 @@
 -- What is answered to words and bytes, before anything is written.
 use Rattle.std.specs.Prelude.{◌≡◌, ℕ, List, ◌++◌, Bool, true, false}
+use Rattle.lisp_base.specs.declared.refusal.Refusal.{Refusal}
 use Rattle.run_semantics.specs.Run.{RunsAs}
 use Rattle.plain_program.specs.Program.{PlainProgram}
 use Rattle.lisp_reader.specs.Tables.{Tables, tables_of}
@@ -15,13 +16,13 @@ use Rattle.lisp_session.specs.declared.answer.RunLeft.{RunLeft}
 -- the text of an answer: journal and report of a run, or the line of a refusal
 abbrev pub answer_text : Answer → List ℕ
 answer_text (Ran run) = journal_text run.symbols run.texts run.entries ++ report_text run.symbols run.texts run.report
-answer_text (Refused number place) = refusal_line number place
+answer_text (Refused refusal place) = refusal_line refusal place
 answer_text RefusedWords = words_line
 
 -- its status: that of a run stands in the report
 abbrev pub answer_status : Answer → ℕ
 answer_status (Ran run) = run.report.status
-answer_status (Refused number place) = 4
+answer_status (Refused refusal place) = 4
 answer_status RefusedWords = 2
 
 -- The bytes are a program, with these symbols and string literals, and it has a run with these entries that ends with this
@@ -34,7 +35,7 @@ pub record LeftBy (bytes : List ℕ) (run : RunLeft) : Type 0 where
 -- what an answer says of the bytes, and whether the words are accepted
 abbrev pub Says : (accepted : Bool) (bytes : List ℕ) → Answer → Type 0
 Says accepted bytes (Ran run) = (accepted ≡ true) × LeftBy bytes run
-Says accepted bytes (Refused number place) = (accepted ≡ true) × IsRefused bytes number place
+Says accepted bytes (Refused refusal place) = (accepted ≡ true) × IsRefused bytes refusal place
 Says accepted bytes RefusedWords = accepted ≡ false
 
 -- What `answer_to` promises of words and bytes.
@@ -46,6 +47,6 @@ pub record Answers (accepted : Bool) (bytes : List ℕ) (answer : Answer) : Type
   -- a program is run where the words are accepted
   pub complete : (tables : Tables) (program : PlainProgram) → accepted ≡ true → Reads bytes tables program → IsRunStatus (answer_status answer)
   -- other bytes are refused then
-  pub refuses : (number place : ℕ) → accepted ≡ true → IsRefused bytes number place → answer ≡ Refused number place
+  pub refuses : (refusal : Refusal) (place : ℕ) → accepted ≡ true → IsRefused bytes refusal place → answer ≡ Refused refusal place
   -- other words are refused
   pub refuses_words : accepted ≡ false → answer ≡ RefusedWords

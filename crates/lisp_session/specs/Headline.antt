@@ -1,6 +1,7 @@
 -- What the top calls promise.
 use Rattle.std.specs.Prelude.{◌≡◌, ℕ, ◌<◌, ◌≤◌, ◌⊎◌, suc, List, [], ◌∷◌, ◌++◌, Bool, true, false, Option, Some, None, length, take}
 use Rattle.std.specs.Io.KnownBytes.{Appends, Consumes, Keeps}
+use Rattle.lisp_base.specs.declared.refusal.Refusal.{Refusal}
 use Rattle.lisp_edge.specs.Faults.{Rose}
 use Rattle.plain_program.specs.Program.{PlainProgram}
 use Rattle.world_semantics.specs.declared.entry.Entry.{Entry}
@@ -68,32 +69,32 @@ pub record WereRead (left left' : Option (List ℕ)) (bytes : List ℕ) : Type 0
   pub taken : WereTaken left left' bytes
   pub ended : length bytes ≤ longest → IsEmptied left left'
 
--- where the source tells what it has left, that is refused with this number at this place
-abbrev pub IsRefusedText : Option (List ℕ) → ℕ → ℕ → Type 0
-IsRefusedText None number place = Unit {0}
-IsRefusedText (Some all) number place = IsRefused all number place
+-- where the source tells what it has left, that is refused for this reason at this place
+abbrev pub IsRefusedText : Option (List ℕ) → Refusal → ℕ → Type 0
+IsRefusedText None refusal place = Unit {0}
+IsRefusedText (Some all) refusal place = IsRefused all refusal place
 
--- the bytes that were read are refused with this number at this place, and so is what the source had left
-pub record RefusesText (left left' : Option (List ℕ)) (bytes : List ℕ) (number place : ℕ) : Type 0 where
+-- the bytes that were read are refused for this reason at this place, and so is what the source had left
+pub record RefusesText (left left' : Option (List ℕ)) (bytes : List ℕ) (refusal : Refusal) (place : ℕ) : Type 0 where
   pub read : WereRead left left' bytes
-  pub refused : IsRefused bytes number place
-  pub source : IsRefusedText left number place
+  pub refused : IsRefused bytes refusal place
+  pub source : IsRefusedText left refusal place
 
 -- what the source had left is refused, and the sink gained the line that says why
 pub record RefusedProgram (left left' held held' : Option (List ℕ)) : Type 0 where
   pub bytes : List ℕ
-  pub number : ℕ
+  pub refusal : Refusal
   pub place : ℕ
-  pub refuses : RefusesText left left' bytes number place
-  pub sink : Appends held held' (refusal_line number place)
+  pub refuses : RefusesText left left' bytes refusal place
+  pub sink : Appends held held' (refusal_line refusal place)
 
 -- A text that is written as a whole where the sink does not fail and memory does not run out: that of a run, the line for
 -- a program that is refused, or the line for words that are not accepted.
 pub data IsAnswer (accepted : Bool) (left left' : Option (List ℕ)) : List ℕ → Type 0 where
   of_a_run : {text : List ℕ} (bytes : List ℕ) (status : ℕ) → accepted ≡ true → IsWhole left left' bytes → IsRunText bytes text status
       → IsAnswer accepted left left' text
-  of_a_refusal : (bytes : List ℕ) (number place : ℕ) → accepted ≡ true → RefusesText left left' bytes number place
-      → IsAnswer accepted left left' (refusal_line number place)
+  of_a_refusal : (bytes : List ℕ) (refusal : Refusal) (place : ℕ) → accepted ≡ true → RefusesText left left' bytes refusal place
+      → IsAnswer accepted left left' (refusal_line refusal place)
   of_words : accepted ≡ false → IsAnswer accepted left left' words_line
 
 -- the sink gained a front of such a text, shorter than the text
@@ -144,7 +145,7 @@ pub record Promise (accepted : Bool) (left left' : Option (List ℕ)) (reads rea
   pub complete : (bytes : List ℕ) (tables : Tables) (program : PlainProgram) → accepted ≡ true → left ≡ Some bytes → Reads bytes tables program
       → ¬ Rose reads reads' → ¬ Rose writes writes' → IsRunStatus status ⊎ (status ≡ 7)
   -- another text that it tells is refused then
-  pub refuses : (bytes : List ℕ) (number place : ℕ) → accepted ≡ true → left ≡ Some bytes → IsRefused bytes number place
+  pub refuses : (bytes : List ℕ) (refusal : Refusal) (place : ℕ) → accepted ≡ true → left ≡ Some bytes → IsRefused bytes refusal place
       → ¬ Rose reads reads' → ¬ Rose writes writes' → (status ≡ 4) ⊎ (status ≡ 7)
   -- words that are not accepted are refused where the sink does not fail and memory does not run out
   pub refuses_words : accepted ≡ false → ¬ Rose writes writes' → (status ≡ 2) ⊎ (status ≡ 7)

@@ -1,5 +1,7 @@
 -- Which texts are programs, and why others are refused.
 use Rattle.std.specs.Prelude.{◌≡◌, ◌⊎◌, ℕ, List, [], Some, None}
+use Rattle.lisp_base.specs.declared.refusal.Refusal.{Refusal}
+use Rattle.lisp_base.specs.declared.refusal.Refusal.TheVariants.{NotBuilt}
 use Rattle.symbol_table.specs.Names.{first_symbols}
 use Rattle.lisp_program.specs.Program.{Program}
 use Rattle.lisp_data.specs.Data.{Data}
@@ -13,10 +15,6 @@ use Rattle.plain_program.specs.Program.{PlainProgram}
 abbrev pub first_tables : Tables
 first_tables = tables_of first_symbols []
 
--- the number of the refusal of a form that is not run yet
-abbrev pub not_built : ℕ
-not_built = 10
-
 -- The bytes are a program with these symbols and string literals: they read as data, these stand for a whole program, all of
 -- whose forms are run, and the program is that one, in the kinds that are run.
 pub record Reads (bytes : List ℕ) (tables : Tables) (program : PlainProgram) : Type 0 where
@@ -27,14 +25,14 @@ pub record Reads (bytes : List ℕ) (tables : Tables) (program : PlainProgram) :
   pub built : first_unbuilt whole.forms ≡ None
   pub is : program ≡ plain_program whole
 
--- The bytes are refused with this number at this place: as a text, or for what the data are that they read as, or for the
+-- The bytes are refused for this reason at this place: as a text, or for what the data are that they read as, or for the
 -- first form of their whole program that is not run yet.
-pub data IsRefused (bytes : List ℕ) (number place : ℕ) : Type 0 where
-  as_text : (tables : Tables) → IsRefusedText bytes first_tables tables number place → IsRefused bytes number place
+pub data IsRefused (bytes : List ℕ) (refusal : Refusal) (place : ℕ) : Type 0 where
+  as_text : (tables : Tables) → IsRefusedText bytes first_tables tables refusal place → IsRefused bytes refusal place
   as_data : (tables : Tables) (read : List Data) → ReadsData bytes first_tables tables read
-      → IsRefusedData tables.symbols tables.literals read number place → IsRefused bytes number place
+      → IsRefusedData tables.symbols tables.literals read refusal place → IsRefused bytes refusal place
   as_unbuilt : (tables : Tables) (read : List Data) (whole : Program) → ReadsData bytes first_tables tables read
-      → Expands tables.symbols tables.literals read whole → first_unbuilt whole.forms ≡ Some place → number ≡ not_built → IsRefused bytes number place
+      → Expands tables.symbols tables.literals read whole → first_unbuilt whole.forms ≡ Some place → refusal ≡ NotBuilt → IsRefused bytes refusal place
 
 -- the bytes are some program
 pub record IsProgram (bytes : List ℕ) : Type 0 where
@@ -42,11 +40,11 @@ pub record IsProgram (bytes : List ℕ) : Type 0 where
   pub program : PlainProgram
   pub reads : Reads bytes tables program
 
--- the bytes are refused with some number at some place
+-- the bytes are refused for some reason at some place
 pub record IsNoProgram (bytes : List ℕ) : Type 0 where
-  pub number : ℕ
+  pub refusal : Refusal
   pub place : ℕ
-  pub refused : IsRefused bytes number place
+  pub refused : IsRefused bytes refusal place
 
 -- all bytes are a program or are refused
 abbrev pub ProgramOrRefused : Type 0
@@ -56,10 +54,10 @@ ProgramOrRefused = (bytes : List ℕ) → IsProgram bytes ⊎ IsNoProgram bytes
 abbrev pub OneProgram : Type 0
 OneProgram = (bytes : List ℕ) (t u : Tables) (p q : PlainProgram) → Reads bytes t p → Reads bytes u q → (t ≡ u) × (p ≡ q)
 
--- bytes are refused with one number at one place
+-- bytes are refused for one reason at one place
 abbrev pub OneRefusal : Type 0
-OneRefusal = (bytes : List ℕ) (m n p q : ℕ) → IsRefused bytes m p → IsRefused bytes n q → (m ≡ n) × (p ≡ q)
+OneRefusal = (bytes : List ℕ) (m n : Refusal) (p q : ℕ) → IsRefused bytes m p → IsRefused bytes n q → (m ≡ n) × (p ≡ q)
 
 -- no bytes are both
 abbrev pub NeverBoth : Type 0
-NeverBoth = (bytes : List ℕ) (tables : Tables) (program : PlainProgram) (number place : ℕ) → Reads bytes tables program → IsRefused bytes number place → ⊥
+NeverBoth = (bytes : List ℕ) (tables : Tables) (program : PlainProgram) (refusal : Refusal) (place : ℕ) → Reads bytes tables program → IsRefused bytes refusal place → ⊥

@@ -8,10 +8,11 @@ ghost use Rattle.lisp_session.specs.Programs.{Reads};
 ghost use Rattle.lisp_session.specs.inside.Reading.{IsRefusal, program_in};
 
 use crate::laws::{never_both, one_refusal};
-use crate::program::{Reading, Refusal, read};
+use crate::program::{Reading, read};
 use form_evaluator::run::{Finished, run_program};
 use lisp_base::id::Place;
 use lisp_base::memory::Memory;
+use lisp_base::refusal::{Refusal, Rejection};
 use lisp_base::sequence::Sequence;
 use run_semantics::report::Report;
 use std::alloc::Global;
@@ -37,8 +38,8 @@ pub struct RunLeft {
 pub enum Answer {
     /// The bytes are a program, and this is what a run of it left.
     Ran(RunLeft),
-    /// The bytes are refused with this number at this place, a byte offset.
-    Refused { number: u32, place: Place },
+    /// The bytes are refused for this reason at this place, a byte offset.
+    Refused { refusal: Refusal, place: Place },
     /// The words are not accepted.
     RefusedWords,
 }
@@ -92,12 +93,12 @@ fn answer_reading(alloc: Global, reading: Reading) -> Result<Answer, Memory>
 }
 
 /// What is answered where bytes are refused.
-fn answer_refusal(refusal: Refusal) -> Result<Answer, Memory>
-    ensures { (bytes : List ℕ) → IsRefusal bytes refusal → IfOk result (Says true bytes) }
+fn answer_refusal(rejection: Rejection) -> Result<Answer, Memory>
+    ensures { (bytes : List ℕ) → IsRefusal bytes rejection → IfOk result (Says true bytes) }
 {
-    match refusal {
-        Refusal::Refused { number, place } => Ok(Answer::Refused { number, place }),
-        Refusal::Memory => Err(Memory),
+    match rejection {
+        Rejection::Refused { refusal, place } => Ok(Answer::Refused { refusal, place }),
+        Rejection::Memory => Err(Memory),
     }
 }
 
@@ -107,7 +108,7 @@ fn answer_bytes(alloc: Global, bytes: &[u8]) -> Result<Answer, Memory>
 {
     match read(alloc, bytes) {
         Ok(reading) => answer_reading(alloc, reading),
-        Err(refusal) => answer_refusal(refusal),
+        Err(rejection) => answer_refusal(rejection),
     }
 }
 

@@ -16,7 +16,7 @@ pub fn one_program()
     reader::one_reading();
 }
 
-/// Bytes are refused with one number at one place.
+/// Bytes are refused for one reason at one place.
 pub fn one_refusal()
     ensures { OneRefusal }
 {

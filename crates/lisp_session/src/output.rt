@@ -7,6 +7,7 @@ ghost use Rattle.lisp_session.specs.declared.output.WriteFailure.TheVariants.{Fa
 
 use crate::answer::{Answer, RunLeft};
 use lisp_base::id::Place;
+use lisp_base::refusal::Refusal;
 use lisp_base::text_writer::TextWriter;
 use lisp_edge::answers::WriteAnswer;
 use lisp_edge::sink::Sink;
@@ -102,13 +103,13 @@ fn write_run<K: Sink>(alloc: Global, sink: &mut K, run: &RunLeft) -> Result<(), 
 fn write_refused<K: Sink>(
     alloc: Global,
     sink: &mut K,
-    number: u32,
+    refusal: Refusal,
     place: Place,
 ) -> Result<(), WriteFailure>
-    ensures whole { OnOk result (WroteWhole (K.held sink.old) (K.held sink.new) (K.faults sink.old) (K.faults sink.new) (answer_text (Answer.Refused number place))) }
-    ensures failure { IfErr result (StopsWriting (K.held sink.old) (K.held sink.new) (K.faults sink.old) (K.faults sink.new) (answer_text (Answer.Refused number place))) }
+    ensures whole { OnOk result (WroteWhole (K.held sink.old) (K.held sink.new) (K.faults sink.old) (K.faults sink.new) (answer_text (Answer.Refused refusal place))) }
+    ensures failure { IfErr result (StopsWriting (K.held sink.old) (K.held sink.new) (K.faults sink.old) (K.faults sink.new) (answer_text (Answer.Refused refusal place))) }
 {
-    match write_refusal(alloc, number, place) {
+    match write_refusal(alloc, refusal, place) {
         Ok(line) => write_text(sink, line.as_bytes()),
         Err(_) => Err(WriteFailure::Memory),
     }
@@ -127,7 +128,7 @@ pub fn write_answer<K: Sink>(
 {
     match answer {
         Answer::Ran(run) => write_run(alloc, sink, run),
-        Answer::Refused { number, place } => write_refused(alloc, sink, *number, *place),
+        Answer::Refused { refusal, place } => write_refused(alloc, sink, *refusal, *place),
         Answer::RefusedWords => write_text(sink, refused_words().as_bytes()),
     }
 }

@@ -5,24 +5,17 @@ ghost use Rattle.lisp_program.specs.Program.{program_of};
 ghost use Rattle.lisp_reader.specs.Tables.{tables_of};
 ghost use Rattle.plain_program.specs.Forms.{forms_of};
 ghost use Rattle.lisp_session.specs.Programs.{Reads};
-ghost use Rattle.lisp_session.specs.inside.Reading.{IsPlain, IsRefusal, IsUnbuilt, IsWhole, of_data, of_text, program_in};
-ghost use Rattle.lisp_session.specs.declared.program.Refusal.TheVariants.{Memory};
+ghost use Rattle.lisp_session.specs.inside.Reading.{IsPlain, IsRefusal, IsUnbuilt, IsWhole, program_in};
 
-use form_shapes::refusal::ExpandRefusal;
-use lisp_base::id::Place;
-use lisp_base::memory;
+use lisp_base::refusal::{Refusal, Rejection};
 use lisp_forms::expander::expand;
 use lisp_program::form::Program;
 use lisp_reader::reader::read_program;
-use lisp_reader::refusal::ReadRefusal;
 use plain_program::form::PlainNode;
 use plain_program::plain::{first_unbuilt, plain_nodes};
 use std::alloc::Global;
 use symbol_table::symbols::Symbols;
 use symbol_table::texts::Texts;
-
-/// The number of the refusal of a form that is not run yet.
-const NOT_BUILT: u32 = 10;
 
 /// A program that was read, with the forms of main that are run, and with its symbols and string literals.
 #[derive(Drop)]
@@ -33,52 +26,13 @@ pub(crate) struct Reading {
     pub texts: Texts,
 }
 
-/// Why there is no program.
-#[derive(Clone, Copy)]
-pub(crate) enum Refusal {
-    /// The number of the refusal, and where it comes.
-    Refused { number: u32, place: Place },
-    /// Memory ran out.
-    Memory,
-}
-
-impl From<memory::Memory> for Refusal {
-    ghost from_gives = { λ _ e. e ≡ Memory };
-
-    fn from(_error: memory::Memory) -> Self {
-        Refusal::Memory
-    }
-}
-
-impl From<ReadRefusal> for Refusal {
-    ghost from_gives = { λ refusal e. e ≡ of_text refusal };
-
-    fn from(refusal: ReadRefusal) -> Self {
-        match refusal {
-            ReadRefusal::Refused { number, place } => Refusal::Refused { number, place },
-            ReadRefusal::Memory => Refusal::Memory,
-        }
-    }
-}
-
-impl From<ExpandRefusal> for Refusal {
-    ghost from_gives = { λ refusal e. e ≡ of_data refusal };
-
-    fn from(refusal: ExpandRefusal) -> Self {
-        match refusal {
-            ExpandRefusal::Refused { number, place } => Refusal::Refused { number, place },
-            ExpandRefusal::Memory => Refusal::Memory,
-        }
-    }
-}
-
 /// The whole program that these bytes stand for, whatever of it is run, with their names and string literals.
 fn whole_program(
     alloc: Global,
     bytes: &[u8],
     symbols: &mut Symbols,
     texts: &mut Texts,
-) -> Result<Program, Refusal>
+) -> Result<Program, Rejection>
     requires { (symbols.now ≡ first_symbols) × (texts.now ≡ []) }
     ensures read { IfOk result (λ program. IsWhole bytes.now (tables_of symbols.new texts.new) (program_of program)) }
     ensures refused { IfErr result (IsRefusal bytes.now) }
@@ -88,15 +42,12 @@ fn whole_program(
 }
 
 /// The forms of main in the kinds that are run. It errs at the first form that is not run yet.
-fn plain_main(alloc: Global, program: &Program) -> Result<Vec<PlainNode>, Refusal>
+fn plain_main(alloc: Global, program: &Program) -> Result<Vec<PlainNode>, Rejection>
     ensures plain { IfOk result (λ forms. IsPlain (program_of program.now) (forms_of forms.items)) }
     ensures refused { IfErr result (IsUnbuilt (program_of program.now)) }
 {
     if let Some(place) = first_unbuilt(program.main()) {
-        return Err(Refusal::Refused {
-            number: NOT_BUILT,
-            place,
-        });
+        return Err(Rejection::at(Refusal::NotBuilt, place));
     }
     Ok(plain_nodes(alloc, program.main())?)
 }
@@ -107,7 +58,7 @@ fn read_into(
     bytes: &[u8],
     symbols: &mut Symbols,
     texts: &mut Texts,
-) -> Result<(Program, Vec<PlainNode>), Refusal>
+) -> Result<(Program, Vec<PlainNode>), Rejection>
     requires { (symbols.now ≡ first_symbols) × (texts.now ≡ []) }
     ensures read { IfOk result (λ program. Reads bytes.now (tables_of symbols.new texts.new) (record { forms = forms_of program.1.items; specials = program.0.specials })) }
     ensures refused { IfErr result (IsRefusal bytes.now) }
@@ -118,7 +69,7 @@ fn read_into(
 }
 
 /// Reads the program that these bytes are.
-pub(crate) fn read(alloc: Global, bytes: &[u8]) -> Result<Reading, Refusal>
+pub(crate) fn read(alloc: Global, bytes: &[u8]) -> Result<Reading, Rejection>
     ensures read { IfOk result (λ reading. Reads bytes.now (tables_of reading.symbols reading.texts) (program_in reading)) }
     ensures refused { IfErr result (IsRefusal bytes.now) }
 {

@@ -304,7 +304,7 @@ fn parts_of_an_expansion_have_the_place_of_the_written_form(rt: HostRuntime) -> 
 (defvar x 1) x => (defvar@0 X 1@10) (special@13 X)
 (defvar a) (let (a (x) (y 1)) a) => A@0 (let@11 NIL@17 NIL@19 1@26 (bind@11 A 2 (bind@11 0 1 (bind@11 1 0 (special@30 A)))))
 (let* (x (y)) y) => (let@0 NIL@7 (bind@0 0 0 (let@0 NIL@9 (bind@0 1 0 (local@14 1)))))
-(let () 1) (let*) => refusal 12 at 11
+(let () 1) (let*) => refusal BadForm at 11
 (in-package :cl-user) 1 => NIL@0 1@22
 (if 1 2) (when 1 2) => (if@0 1@4 2@6 NIL@0) (if@9 1@15 (progn@9 2@17) NIL@9)
 (cond (1) (2 3)) => (let@0 1@7 (bind@0 0 0 (if@0 (local@0 0) (local@0 0) (if@0 2@11 (progn@0 3@13) NIL@0))))

@@ -3,8 +3,8 @@
 //! A constant is its value, and any other form a list of a word and what comes after it: names, values and numbers of its kind, and the forms under it. `(if (local 0) 1 NIL)` tests the lexical variable 0. After main's forms comes each function, as `(function F 2 ..)` with its name or place, how many parameters it has, and its body.
 use crate::form_words::{keys, numbers, symbol, value, word};
 use crate::tables::Tables;
-use form_shapes::refusal::ExpandRefusal;
 use lisp_base::id::Place;
+use lisp_base::refusal::Rejection;
 use lisp_base::value::Value;
 use lisp_data::datum::Datum;
 use lisp_forms::expander::expand;
@@ -14,7 +14,7 @@ use std::alloc::{AllocError, Global};
 use std::test::Fail;
 use symbol_table::error::InternError;
 
-/// What data expand to, with the place of each form or without, or the number and place of their refusal.
+/// What data expand to, with the place of each form or without, or the name and place of their refusal.
 pub fn expansion(
     alloc: Global,
     data: &[Datum],
@@ -24,27 +24,28 @@ pub fn expansion(
     let outcome = expand(alloc, data, &tables.symbols, &tables.texts);
     match &outcome {
         Ok(program) => printed(alloc, program, tables, with_places),
-        Err(refusal) => refused(alloc, refusal),
+        Err(rejection) => refused(alloc, rejection),
     }
 }
 
-/// Whether data are a program, or the number and place of their refusal.
+/// Whether data are a program, or the name and place of their refusal.
 pub fn verdict(alloc: Global, data: &[Datum], tables: &Tables) -> Result<String, Fail> {
     let outcome = expand(alloc, data, &tables.symbols, &tables.texts);
     match &outcome {
         Ok(_) => Ok(format!(in alloc; "accepted")?),
-        Err(refusal) => refused(alloc, refusal),
+        Err(rejection) => refused(alloc, rejection),
     }
 }
 
-/// The number and place of a refusal.
-fn refused(alloc: Global, refusal: &ExpandRefusal) -> Result<String, Fail> {
-    match refusal {
-        ExpandRefusal::Refused { number, place } => {
+/// The name and place of a refusal.
+fn refused(alloc: Global, rejection: &Rejection) -> Result<String, Fail> {
+    match rejection {
+        Rejection::Refused { refusal, place } => {
+            let name = refusal.name();
             let at = place.0;
-            Ok(format!(in alloc; "refusal {number} at {at}")?)
+            Ok(format!(in alloc; "refusal {name} at {at}")?)
         }
-        ExpandRefusal::Memory => Err("memory ran out".into()),
+        Rejection::Memory => Err("memory ran out".into()),
     }
 }
 

@@ -157,32 +157,32 @@ fn what_does_not_end_is_refused(rt: HostRuntime) -> Result<(), Fail> {
         rt.alloc(),
         r#"cases: 25
 -- in a list or a quote
-( => refusal 2 at 0
-(( => refusal 2 at 1
-(() => refusal 2 at 0
-(() ( => refusal 2 at 4
-a (b) (c (d)␠ => refusal 2 at 6
-(a ; ) => refusal 2 at 0
-' => refusal 2 at 0
-#' => refusal 2 at 0
-'' => refusal 2 at 1
-'#' => refusal 2 at 1
-' ; c => refusal 2 at 0
-'( => refusal 2 at 1
-(a ' => refusal 2 at 3
-(a 'b => refusal 2 at 0
-('(a)␠ => refusal 2 at 0
-(''(a) ' => refusal 2 at 7
+( => refusal EndInside at 0
+(( => refusal EndInside at 1
+(() => refusal EndInside at 0
+(() ( => refusal EndInside at 4
+a (b) (c (d)␠ => refusal EndInside at 6
+(a ; ) => refusal EndInside at 0
+' => refusal EndInside at 0
+#' => refusal EndInside at 0
+'' => refusal EndInside at 1
+'#' => refusal EndInside at 1
+' ; c => refusal EndInside at 0
+'( => refusal EndInside at 1
+(a ' => refusal EndInside at 3
+(a 'b => refusal EndInside at 0
+('(a)␠ => refusal EndInside at 0
+(''(a) ' => refusal EndInside at 7
 -- in a string
-" => refusal 2 at 0
-"a\" => refusal 2 at 0
-"a\ => refusal 2 at 0
-"a" "b => refusal 2 at 4
-"a\\" "\" => refusal 2 at 6
-(a "b => refusal 2 at 3
-'"a => refusal 2 at 1
-(a "b) => refusal 2 at 3
-"é" " => refusal 2 at 5
+" => refusal EndInside at 0
+"a\" => refusal EndInside at 0
+"a\ => refusal EndInside at 0
+"a" "b => refusal EndInside at 4
+"a\\" "\" => refusal EndInside at 6
+(a "b => refusal EndInside at 3
+'"a => refusal EndInside at 1
+(a "b) => refusal EndInside at 3
+"é" " => refusal EndInside at 5
 "#,
         Told::Data,
     )
@@ -194,17 +194,17 @@ fn what_closes_nothing_is_refused(rt: HostRuntime) -> Result<(), Fail> {
         &rt,
         rt.alloc(),
         r#"cases: 10
-) => refusal 3 at 0
-a) => refusal 3 at 1
-()) => refusal 3 at 2
-(a) ) => refusal 3 at 4
-; )␊) => refusal 3 at 4
-")") => refusal 3 at 3
+) => refusal UnmatchedClose at 0
+a) => refusal UnmatchedClose at 1
+()) => refusal UnmatchedClose at 2
+(a) ) => refusal UnmatchedClose at 4
+; )␊) => refusal UnmatchedClose at 4
+")") => refusal UnmatchedClose at 3
 -- a quote waits for its datum
-') => refusal 3 at 1
-(') => refusal 3 at 2
-(#') => refusal 3 at 3
-('a') => refusal 3 at 4
+') => refusal UnmatchedClose at 1
+(') => refusal UnmatchedClose at 2
+(#') => refusal UnmatchedClose at 3
+('a') => refusal UnmatchedClose at 4
 "#,
         Told::Data,
     )
@@ -216,35 +216,35 @@ fn bad_tokens_are_refused(rt: HostRuntime) -> Result<(), Fail> {
         &rt,
         rt.alloc(),
         r#"cases: 26
-# => refusal 4 at 0
-#(a) => refusal 4 at 0
-#a'b => refusal 4 at 0
-a#'b => refusal 4 at 0
-##'a => refusal 4 at 0
-# 'a => refusal 4 at 0
-'#f => refusal 4 at 1
-(a #f) => refusal 4 at 3
-(a) sb-foo:x => refusal 4 at 4
-(a . b) => refusal 4 at 3
-(a 1. b) => refusal 4 at 3
-"a".5 => refusal 4 at 3
+# => refusal BadToken at 0
+#(a) => refusal BadToken at 0
+#a'b => refusal BadToken at 0
+a#'b => refusal BadToken at 0
+##'a => refusal BadToken at 0
+# 'a => refusal BadToken at 0
+'#f => refusal BadToken at 1
+(a #f) => refusal BadToken at 3
+(a) sb-foo:x => refusal BadToken at 4
+(a . b) => refusal BadToken at 3
+(a 1. b) => refusal BadToken at 3
+"a".5 => refusal BadToken at 3
 -- a backslash that is in no string
-\ => refusal 4 at 0
-\a => refusal 4 at 0
-\"a" => refusal 4 at 0
-(a \(b) => refusal 4 at 3
+\ => refusal BadToken at 0
+\a => refusal BadToken at 0
+\"a" => refusal BadToken at 0
+(a \(b) => refusal BadToken at 3
 -- characters beyond ASCII and other blanks
-ü( => refusal 4 at 0
-(λ (x) x) => refusal 4 at 1
-"é" aé => refusal 4 at 5
-a‹c2 a0›b => refusal 4 at 0
-a ␋b => refusal 4 at 2
-‹ef bb bf›(a) => refusal 4 at 0
+ü( => refusal BadToken at 0
+(λ (x) x) => refusal BadToken at 1
+"é" aé => refusal BadToken at 5
+a‹c2 a0›b => refusal BadToken at 0
+a ␋b => refusal BadToken at 2
+‹ef bb bf›(a) => refusal BadToken at 0
 -- numbers that are too large
-4611686018427387904 => refusal 5 at 0
-(4000000000.000001) => refusal 5 at 1
-'-4611686018427387905 => refusal 5 at 1
-(a 99999999999999999999) => refusal 5 at 3
+4611686018427387904 => refusal NumberTooLarge at 0
+(4000000000.000001) => refusal NumberTooLarge at 1
+'-4611686018427387905 => refusal NumberTooLarge at 1
+(a 99999999999999999999) => refusal NumberTooLarge at 3
 "#,
         Told::Data,
     )

@@ -1,10 +1,10 @@
 //! What texts read as over tables of names and string literals, as text, for the tests of the reader.
 use crate::form_text::{expansion, verdict};
-use lisp_base::id::{Micros, Place, StringId, SymbolId};
+use lisp_base::id::{Micros, StringId, SymbolId};
 use lisp_base::memory::Memory;
+use lisp_base::refusal::{Refused, Rejection};
 use lisp_data::datum::{Datum, DatumKind, DatumNode};
 use lisp_reader::reader::read_program;
-use lisp_reader::refusal::ReadRefusal;
 use std::alloc::{AllocError, Global};
 use std::test::Fail;
 use symbol_table::NAMES;
@@ -18,7 +18,7 @@ pub struct Tables {
     pub texts: Texts,
 }
 
-/// What is compared of a text that is read. Of a text that is refused it is the number and the place.
+/// What is compared of a text that is read. Of a text that is refused it is the name and the place of its refusal.
 #[derive(Clone, Copy)]
 pub enum Told {
     /// The data, as `Tables::printed` gives them.
@@ -45,20 +45,15 @@ impl Tables {
         Ok(Tables { symbols, texts })
     }
 
-    /// The data of a text, or the number and place of its refusal.
+    /// The data of a text, or what is refused of it, and where.
     pub fn read(
         &mut self,
         alloc: Global,
         text: &[u8],
-    ) -> Result<Result<Vec<Datum>, (u32, u32)>, Fail> {
+    ) -> Result<Result<Vec<Datum>, Refused>, Fail> {
         match read_program(alloc, text, &mut self.symbols, &mut self.texts) {
             Ok(data) => Ok(Ok(data)),
-            Err(
-                ReadRefusal::Refused {
-                    number,
-                    place: Place(place),
-                },
-            ) => Ok(Err((number, place))),
+            Err(Rejection::Refused { refusal, place }) => Ok(Err(Refused { refusal, place })),
             Err(error) => Err(error.into()),
         }
     }
@@ -68,7 +63,11 @@ impl Tables {
         let outcome = self.read(alloc, text)?;
         let mut printed = match &outcome {
             Ok(data) => self.told(alloc, data.as_slice(), told)?,
-            Err((number, place)) => format!(in alloc; "refusal {number} at {place}")?,
+            Err(Refused { refusal, place }) => {
+                let name = refusal.name();
+                let at = place.0;
+                format!(in alloc; "refusal {name} at {at}")?
+            }
         };
         match told {
             Told::Data | Told::Count | Told::Places | Told::Forms | Told::Verdict => {}

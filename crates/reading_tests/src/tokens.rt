@@ -57,20 +57,20 @@ fn numbers_out_of_range_are_too_large(rt: HostRuntime) -> Result<(), Fail> {
         &rt,
         rt.alloc(),
         r#"cases: 13
-4611686018427387904 => refusal 5 at 0
-+4611686018427387904 => refusal 5 at 0
--4611686018427387905 => refusal 5 at 0
+4611686018427387904 => refusal NumberTooLarge at 0
++4611686018427387904 => refusal NumberTooLarge at 0
+-4611686018427387905 => refusal NumberTooLarge at 0
 -- sizes that would wrap
-9223372036854775808 => refusal 5 at 0
--9223372036854775808 => refusal 5 at 0
-18446744073709551616 => refusal 5 at 0
--18446744073709551617 => refusal 5 at 0
-99999999999999999999999999999999999999999999999999 => refusal 5 at 0
-4000000000.000001 => refusal 5 at 0
-4000000000.1 => refusal 5 at 0
-4000000001.0 => refusal 5 at 0
-18446744073709551616.5 => refusal 5 at 0
-99999999999999999999999999999999999999999999999999.5 => refusal 5 at 0
+9223372036854775808 => refusal NumberTooLarge at 0
+-9223372036854775808 => refusal NumberTooLarge at 0
+18446744073709551616 => refusal NumberTooLarge at 0
+-18446744073709551617 => refusal NumberTooLarge at 0
+99999999999999999999999999999999999999999999999999 => refusal NumberTooLarge at 0
+4000000000.000001 => refusal NumberTooLarge at 0
+4000000000.1 => refusal NumberTooLarge at 0
+4000000001.0 => refusal NumberTooLarge at 0
+18446744073709551616.5 => refusal NumberTooLarge at 0
+99999999999999999999999999999999999999999999999999.5 => refusal NumberTooLarge at 0
 "#,
         Told::Kinds,
     )
@@ -82,30 +82,30 @@ fn what_begins_as_a_number_and_is_none_is_bad(rt: HostRuntime) -> Result<(), Fai
         &rt,
         rt.alloc(),
         r#"cases: 24
-1. => refusal 4 at 0
--1. => refusal 4 at 0
-4611686018427387904. => refusal 4 at 0
-.5 => refusal 4 at 0
-. => refusal 4 at 0
-... => refusal 4 at 0
-.a => refusal 4 at 0
-1.1234567 => refusal 4 at 0
-4000000001.0000000 => refusal 4 at 0
-1.5.5 => refusal 4 at 0
-1.+5 => refusal 4 at 0
-1.5+ => refusal 4 at 0
--1.5 => refusal 4 at 0
-+1.5 => refusal 4 at 0
-1a => refusal 4 at 0
-+1a => refusal 4 at 0
-1+2 => refusal 4 at 0
-1-2 => refusal 4 at 0
-+1+ => refusal 4 at 0
--1- => refusal 4 at 0
-1++ => refusal 4 at 0
-1e5 => refusal 4 at 0
-1/2 => refusal 4 at 0
-1:a => refusal 4 at 0
+1. => refusal BadToken at 0
+-1. => refusal BadToken at 0
+4611686018427387904. => refusal BadToken at 0
+.5 => refusal BadToken at 0
+. => refusal BadToken at 0
+... => refusal BadToken at 0
+.a => refusal BadToken at 0
+1.1234567 => refusal BadToken at 0
+4000000001.0000000 => refusal BadToken at 0
+1.5.5 => refusal BadToken at 0
+1.+5 => refusal BadToken at 0
+1.5+ => refusal BadToken at 0
+-1.5 => refusal BadToken at 0
++1.5 => refusal BadToken at 0
+1a => refusal BadToken at 0
++1a => refusal BadToken at 0
+1+2 => refusal BadToken at 0
+1-2 => refusal BadToken at 0
++1+ => refusal BadToken at 0
+-1- => refusal BadToken at 0
+1++ => refusal BadToken at 0
+1e5 => refusal BadToken at 0
+1/2 => refusal BadToken at 0
+1:a => refusal BadToken at 0
 "#,
         Told::Kinds,
     )
@@ -117,32 +117,32 @@ fn names_with_other_letters_are_bad(rt: HostRuntime) -> Result<(), Fail> {
         &rt,
         rt.alloc(),
         r#"cases: 25
-# => refusal 4 at 0
-#f => refusal 4 at 0
-#x => refusal 4 at 0
-a# => refusal 4 at 0
-\ => refusal 4 at 0
-a\b => refusal 4 at 0
-|a| => refusal 4 at 0
-[x] => refusal 4 at 0
-{x} => refusal 4 at 0
-a,b => refusal 4 at 0
-`a => refusal 4 at 0
-é => refusal 4 at 0
-aé => refusal 4 at 0
-‹00› => refusal 4 at 0
-␋ => refusal 4 at 0
-‹7f› => refusal 4 at 0
-‹c2 a0› => refusal 4 at 0
-‹ef bb bf›a => refusal 4 at 0
-: => refusal 4 at 0
-::k => refusal 4 at 0
-:a:b => refusal 4 at 0
-:# => refusal 4 at 0
-:é => refusal 4 at 0
+# => refusal BadToken at 0
+#f => refusal BadToken at 0
+#x => refusal BadToken at 0
+a# => refusal BadToken at 0
+\ => refusal BadToken at 0
+a\b => refusal BadToken at 0
+|a| => refusal BadToken at 0
+[x] => refusal BadToken at 0
+{x} => refusal BadToken at 0
+a,b => refusal BadToken at 0
+`a => refusal BadToken at 0
+é => refusal BadToken at 0
+aé => refusal BadToken at 0
+‹00› => refusal BadToken at 0
+␋ => refusal BadToken at 0
+‹7f› => refusal BadToken at 0
+‹c2 a0› => refusal BadToken at 0
+‹ef bb bf›a => refusal BadToken at 0
+: => refusal BadToken at 0
+::k => refusal BadToken at 0
+:a:b => refusal BadToken at 0
+:# => refusal BadToken at 0
+:é => refusal BadToken at 0
 -- bytes of no character
-a‹ff› => refusal 1 at 1
-:‹ff› => refusal 1 at 1
+a‹ff› => refusal NotUtf8 at 1
+:‹ff› => refusal NotUtf8 at 1
 "#,
         Told::Kinds,
     )
@@ -154,20 +154,20 @@ fn prefixes_of_no_package_are_bad(rt: HostRuntime) -> Result<(), Fail> {
         &rt,
         rt.alloc(),
         r#"cases: 14
-a:b => refusal 4 at 0
-sb-foo:x => refusal 4 at 0
-c:x => refusal 4 at 0
-cll:x => refusal 4 at 0
-cl-user:x => refusal 4 at 0
-keyword:x => refusal 4 at 0
-sb_ext:x => refusal 4 at 0
-cl: => refusal 4 at 0
-cl:: => refusal 4 at 0
-cl:::x => refusal 4 at 0
-cl:a:b => refusal 4 at 0
-cl:cl:x => refusal 4 at 0
-cl:# => refusal 4 at 0
-cl:é => refusal 4 at 0
+a:b => refusal BadToken at 0
+sb-foo:x => refusal BadToken at 0
+c:x => refusal BadToken at 0
+cll:x => refusal BadToken at 0
+cl-user:x => refusal BadToken at 0
+keyword:x => refusal BadToken at 0
+sb_ext:x => refusal BadToken at 0
+cl: => refusal BadToken at 0
+cl:: => refusal BadToken at 0
+cl:::x => refusal BadToken at 0
+cl:a:b => refusal BadToken at 0
+cl:cl:x => refusal BadToken at 0
+cl:# => refusal BadToken at 0
+cl:é => refusal BadToken at 0
 "#,
         Told::Kinds,
     )
@@ -255,8 +255,8 @@ fn a_quote_is_no_token(rt: HostRuntime) -> Result<(), Fail> {
         &rt,
         rt.alloc(),
         r#"cases: 4
-' => refusal 2 at 0
-#' => refusal 2 at 0
+' => refusal EndInside at 0
+#' => refusal EndInside at 0
 #'f => (@0 FUNCTION@0 F@2)
 '1+ => (@0 QUOTE@0 1+@1)
 "#,

@@ -12,11 +12,11 @@ fn a_program_has_4096_symbols_at_most(rt: HostRuntime) -> Result<(), Fail> {
 -- 4,090 keywords behind the five first symbols, and QUOTE
 ‹1000..5090×:№ ›'nil => 4093
 'T nil :warn :punt :Force :1000 :5089 "a" 1 => 11
-x => refusal 8 at 0
-(t :5090) => refusal 8 at 3
-(''#'t) => refusal 8 at 3
-x #b => refusal 8 at 0
-#b x => refusal 4 at 0
+x => refusal TooManySymbols at 0
+(t :5090) => refusal TooManySymbols at 3
+(''#'t) => refusal TooManySymbols at 3
+x #b => refusal TooManySymbols at 0
+#b x => refusal BadToken at 0
 "#,
         Told::Count,
     )?;
@@ -25,7 +25,7 @@ x #b => refusal 8 at 0
         &rt,
         rt.alloc(),
         r#"cases: 1
-‹1000..5092×:№ › => refusal 8 at 24546
+‹1000..5092×:№ › => refusal TooManySymbols at 24546
 "#,
         Told::Count,
     )
@@ -39,10 +39,10 @@ fn a_program_has_4096_literals_at_most(rt: HostRuntime) -> Result<(), Fail> {
         r#"cases: 6
 ‹1000..5096×"№"› => 4096
 ("1000" "5095" x) => 4
-(a "5096") => refusal 9 at 3
-'"" => refusal 9 at 1
-"x" #b => refusal 9 at 0
-#b "x" => refusal 4 at 0
+(a "5096") => refusal TooManyTexts at 3
+'"" => refusal TooManyTexts at 1
+"x" #b => refusal TooManyTexts at 0
+#b "x" => refusal BadToken at 0
 "#,
         Told::Count,
     )?;
@@ -51,7 +51,7 @@ fn a_program_has_4096_literals_at_most(rt: HostRuntime) -> Result<(), Fail> {
         &rt,
         rt.alloc(),
         r#"cases: 1
-‹1000..5097×"№"› => refusal 9 at 24576
+‹1000..5097×"№"› => refusal TooManyTexts at 24576
 "#,
         Told::Count,
     )
@@ -93,15 +93,15 @@ fn after_a_refusal_the_tables_keep_what_came_before(rt: HostRuntime) -> Result<(
         &rt,
         rt.alloc(),
         r#"cases: 8
-foo "a" ‹ff› => refusal 1 at 8
-(foo 'bar "a => refusal 2 at 10 FOO QUOTE BAR
-("a" foo #' => refusal 2 at 9 FOO FUNCTION "a"
-foo "a" ) bar => refusal 3 at 8 FOO "a"
-foo "a" bar #b baz "b" => refusal 4 at 12 FOO BAR "a"
-'a:b => refusal 4 at 1 QUOTE
-foo 4611686018427387904 bar => refusal 5 at 4 FOO
+foo "a" ‹ff› => refusal NotUtf8 at 8
+(foo 'bar "a => refusal EndInside at 10 FOO QUOTE BAR
+("a" foo #' => refusal EndInside at 9 FOO FUNCTION "a"
+foo "a" ) bar => refusal UnmatchedClose at 8 FOO "a"
+foo "a" bar #b baz "b" => refusal BadToken at 12 FOO BAR "a"
+'a:b => refusal BadToken at 1 QUOTE
+foo 4611686018427387904 bar => refusal NumberTooLarge at 4 FOO
 -- a quote that is nested too deep uses no symbol
-‹256×(›'a => refusal 6 at 256
+‹256×(›'a => refusal TooDeep at 256
 "#,
         Told::Kept,
     )

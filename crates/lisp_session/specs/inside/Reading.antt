@@ -1,5 +1,8 @@
 -- What reading a program answers.
 use Rattle.std.specs.Prelude.{◌≡◌, ℕ, List, Some, None}
+use Rattle.lisp_base.specs.declared.refusal.Refusal.TheVariants.{NotBuilt}
+use Rattle.lisp_base.specs.declared.refusal.Rejection.{Rejection}
+use Rattle.lisp_base.specs.declared.refusal.Rejection.TheVariants.{Refused, Memory}
 use Rattle.lisp_program.specs.Program.{Program}
 use Rattle.lisp_data.specs.Data.{Data}
 use Rattle.lisp_reader.specs.Reading.{Reads as ReadsData}
@@ -8,28 +11,12 @@ use Rattle.lisp_forms.specs.Program.{Expands}
 use Rattle.plain_program.specs.Plain.{first_unbuilt, plain_forms}
 use Rattle.plain_program.specs.Forms.{PlainForms, forms_of}
 use Rattle.plain_program.specs.Program.{PlainProgram}
-use Rattle.form_shapes.specs.declared.refusal.ExpandRefusal.{ExpandRefusal}
-use Rattle.form_shapes.specs.declared.refusal.ExpandRefusal.TheVariants.{Refused as RefusedData, Memory as NoMemoryForForms}
-use Rattle.lisp_reader.specs.declared.refusal.ReadRefusal.{ReadRefusal}
-use Rattle.lisp_reader.specs.declared.refusal.ReadRefusal.TheVariants.{Refused as RefusedText, Memory as NoMemoryForData}
 use Rattle.lisp_session.specs.declared.program.Reading.{Reading}
-use Rattle.lisp_session.specs.declared.program.Refusal.{Refusal}
-use Rattle.lisp_session.specs.declared.program.Refusal.TheVariants.{Refused, Memory}
-use Rattle.lisp_session.specs.Programs.{IsRefused, first_tables, not_built}
-
--- the refusal of a text
-abbrev pub of_text : ReadRefusal → Refusal
-of_text (RefusedText number place) = Refused number place
-of_text NoMemoryForData = Memory
-
--- the refusal of data
-abbrev pub of_data : ExpandRefusal → Refusal
-of_data (RefusedData number place) = Refused number place
-of_data NoMemoryForForms = Memory
+use Rattle.lisp_session.specs.Programs.{IsRefused, first_tables}
 
 -- a refusal says why the bytes are no program; memory that ran out says nothing
-abbrev pub IsRefusal : List ℕ → Refusal → Type 0
-IsRefusal bytes (Refused number place) = IsRefused bytes number place
+abbrev pub IsRefusal : List ℕ → Rejection → Type 0
+IsRefusal bytes (Refused refusal place) = IsRefused bytes refusal place
 IsRefusal bytes Memory = Unit {0}
 
 -- the bytes read as data that stand for this whole program, with these symbols and string literals
@@ -44,8 +31,8 @@ pub record IsPlain (whole : Program) (forms : PlainForms) : Type 0 where
   pub is : forms ≡ plain_forms whole.forms
 
 -- the first form of a whole program that is not run yet; memory that ran out says nothing
-abbrev pub IsUnbuilt : Program → Refusal → Type 0
-IsUnbuilt whole (Refused number place) = (first_unbuilt whole.forms ≡ Some place) × (number ≡ not_built)
+abbrev pub IsUnbuilt : Program → Rejection → Type 0
+IsUnbuilt whole (Refused refusal place) = (first_unbuilt whole.forms ≡ Some place) × (refusal ≡ NotBuilt)
 IsUnbuilt whole Memory = Unit {0}
 
 -- the program that was read, in the kinds that are run

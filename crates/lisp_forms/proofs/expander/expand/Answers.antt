@@ -13,8 +13,8 @@ returns-clause-expanded c =
     expansion-nodes names texts ds c.as_slice.result.now c.as_slice-2.result.now _ c.as_slice-nodes.result.now
     (c.as_slice.ensures.value ∙ c.in_ok-specials.ensures) (c.as_slice-2.ensures.value ∙ c.in_ok-functions.ensures) c.none-levels.ensures
     (c.as_slice-nodes.ensures.value ∙ c.in_ok-expansion.ensures) in
-    expands names texts ds c.as_slice-nodes.result.now c.in_ok-refusal.field-0 _ _ _ c.of.result all
-    c.in_ok-refusal.ensures c.in_default.is c.in_ok-main.ensures c.in_ok-specials.ensures c.of.ensures
+    expands names texts ds c.as_slice-nodes.result.now c.in_ok-told.field-0 _ _ _ c.of.result all
+    c.in_ok-told.ensures c.in_default.is c.in_ok-main.ensures c.in_ok-specials.ensures c.of.ensures
 
 pub returns-clause-whole : goal.returns-clause-whole
 returns-clause-whole c =

@@ -1,6 +1,6 @@
 use Rattle.std.proofs.Common.{◌≤◌, arith, length, ◌∙◌}
+use Rattle.lisp_base.specs.declared.refusal.Rejection.TheVariants.{Memory}
 use Rattle.lisp_reader.specs.Reading.{longest}
-use Rattle.lisp_reader.specs.declared.refusal.ReadRefusal.TheVariants.{Memory}
 use Rattle.lisp_reader.proofs.Leaves.{passed_on}
 use Rattle.lisp_reader.proofs.Passes.{few_marks, few_nodes, holds_all, reads_nodes, whole_nodes}
 use Rattle.lisp_reader.proofs.reader.read_program.Goals as goal

@@ -1,5 +1,5 @@
 use Rattle.std.proofs.Common.{◌∙◌, inr}
-use Rattle.lisp_reader.specs.declared.refusal.ReadRefusal.TheVariants.{Memory}
+use Rattle.lisp_base.specs.declared.refusal.Rejection.TheVariants.{Memory}
 use Rattle.lisp_reader.specs.inside.Marking.{RefusedPart}
 use Rattle.lisp_reader.specs.Parts.{Token'}
 use Rattle.lisp_reader.specs.Tables.{tables_of}
