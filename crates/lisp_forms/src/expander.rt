@@ -128,16 +128,23 @@ fn past_limit(places: &[Place]) -> Option<Place>
     None
 }
 
+/// The refusal of a function past the limit, where there is one.
+fn limit_refusal(past: Option<Place>) -> Option<Refused>
+    ensures { result ≡ Program.limit_refusal past }
+{
+    let place = past?;
+    Some(Refused {
+        refusal: Refusal::TooMany,
+        place,
+    })
+}
+
 /// What is refused of a program with these nodes.
 fn program_refusal(alloc: Global, nodes: &[ExpandedNode]) -> Result<Option<Refused>, Memory>
     ensures { IfOk result (λ refusal. (e : Expansion) → nodes.now ≡ flat e → refusal ≡ Program.program_refusal e) }
 {
     let places = function_places(alloc, nodes)?;
-    let past = past_limit(places.as_slice());
-    let limit = past.map(|place| Refused {
-        refusal: Refusal::TooMany,
-        place,
-    });
+    let limit = limit_refusal(past_limit(places.as_slice()));
     Ok(earlier(first_refusal(nodes), limit))
 }
 
