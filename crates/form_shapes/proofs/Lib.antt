@@ -3,9 +3,9 @@ pub mod Bound
 pub mod Counted
 pub mod Served
 pub mod Operators
-pub mod Numbers
 pub mod Openings
 pub mod Counts
 pub mod Sized
 pub mod Chosen
 pub mod Taken
+pub mod Keys

@@ -2,3 +2,4 @@
 pub mod One
 pub mod Contexts
 pub mod Sizes
+pub mod Keys
