@@ -9,7 +9,7 @@ use Rattle.lisp_data.specs.Data.{Data, NoData, Atom, Listed, behind, count_of}
 use Rattle.form_shapes.specs.declared.operator.Operator.{Operator}
 use Rattle.form_shapes.specs.declared.operator.Operator.TheVariants as op
 use Rattle.form_shapes.specs.declared.expanded.Expanded.{Expanded}
-use Rattle.form_shapes.specs.declared.expanded.Expanded.TheVariants.{Form, Lambda, Defun, Refused, RefusedFunction}
+use Rattle.form_shapes.specs.declared.expanded.Expanded.TheVariants.{Form, InBlock, Lambda, Defun, Refused, RefusedFunction}
 use Rattle.form_shapes.specs.declared.place.Placed.{Placed}
 use Rattle.form_shapes.specs.declared.place.Placed.TheVariants.{Made, Inner, Other}
 use Rattle.form_shapes.specs.declared.shape.Shape.{Shape}
@@ -26,6 +26,7 @@ misplaced_refusal refusal = if nat_lt (refusal_number refusal) (refusal_number F
 -- the refusal of a form that may not stand here, by what would stand for it elsewhere
 abbrev pub misplaced_kind : Expanded → Expanded
 misplaced_kind (Form kind) = Refused FunctionPlace
+misplaced_kind (InBlock n turning) = Refused FunctionPlace
 misplaced_kind (Lambda parameters) = Refused FunctionPlace
 misplaced_kind (Defun f parameters) = Refused FunctionPlace
 misplaced_kind (Refused refusal) = Refused (misplaced_refusal refusal)

@@ -5,15 +5,16 @@ use Rattle.lisp_base.specs.Forest.{Forest, NoTrees, Tree, behind, count_of, fron
 use Rattle.lisp_program.specs.Forms.{Forms, forms_of, preorder}
 use Rattle.lisp_program.specs.Program.{Function}
 use Rattle.lisp_program.specs.declared.form.CoreKind.{CoreKind}
+use Rattle.lisp_program.specs.declared.form.CoreKind.TheVariants.{Block as BlockForm}
 use Rattle.lisp_program.specs.declared.form.FormNode.{FormNode}
 use Rattle.form_shapes.specs.declared.expanded.Expanded.{Expanded}
-use Rattle.form_shapes.specs.declared.expanded.Expanded.TheVariants.{Form, Lambda, Defun, Refused, RefusedFunction}
+use Rattle.form_shapes.specs.declared.expanded.Expanded.TheVariants.{Form, InBlock, Lambda, Defun, Refused, RefusedFunction}
 use Rattle.form_shapes.specs.declared.expanded.ExpandedNode.{ExpandedNode}
 use Rattle.lisp_forms.specs.inside.Flat.{flat, node}
-use Rattle.lisp_forms.specs.Program.{core_forms, core_kind, functions_of, with_function}
+use Rattle.lisp_forms.specs.Program.{core_forms, core_kind, functions_of, with_block, with_function}
 use Rattle.lisp_forms.specs.Blocks.{is_function}
 use Rattle.lisp_forms.specs.Trees.{Expansion}
-use Rattle.lisp_forms.specs.inside.Written.{core_here, core_node, cores_in, function_here, is_done, left_behind, skipped_behind}
+use Rattle.lisp_forms.specs.inside.Written.{block_node, core_here, core_node, cores_in, function_here, is_done, left_behind, skipped_behind}
 
 -- the first so many of two forests are the first
 front-joined : {K : Type 0} (f g : Forest K) → front (count_of f) (joined f g) ≡ f
@@ -42,10 +43,33 @@ forms_of-preorder (Tree k p under beside) ns =
 pub forms_back : (f : Forms) → forms_of (preorder f) ≡ f
 forms_back f = ap forms_of (sym (append-nil (preorder f))) ∙ forms_of-preorder f [] ∙ joined_none f
 
+-- a form in its block is one form
+count-block : (kind : Expanded) (k : CoreKind) (p : ℕ) (under others : Forms) → count_of (with_block kind k p under others) ≡ suc (count_of others)
+count-block (Form kind) k p under others = refl
+count-block (InBlock n turning) k p under others = refl
+count-block (Lambda parameters) k p under others = refl
+count-block (Defun f parameters) k p under others = refl
+count-block (Refused number) k p under others = refl
+count-block (RefusedFunction number) k p under others = refl
+
+-- the node of its block stands before its own
+preorder-block : (kind : Expanded) (k : CoreKind) (p : ℕ) (under others : Forms)
+    → preorder (with_block kind k p under others) ≡ block_node kind p ++ ((record { kind = k; place = p; parts = count_of under }) ∷ (preorder under ++ preorder others))
+preorder-block (Form kind) k p under others = refl
+preorder-block (InBlock n turning) k p under others =
+    let own : FormNode = record { kind = k; place = p; parts = count_of under } in
+    let block : FormNode = record { kind = BlockForm n; place = p; parts = 1 } in
+    ap (λ ns. block ∷ (own ∷ ns) ++ preorder others) (append-nil (preorder under))
+preorder-block (Lambda parameters) k p under others = refl
+preorder-block (Defun f parameters) k p under others = refl
+preorder-block (Refused number) k p under others = refl
+preorder-block (RefusedFunction number) k p under others = refl
+
 -- as many forms as trees
 count-core : (e : Expansion) → count_of (core_forms e) ≡ count_of e
 count-core NoTrees = refl
-count-core (Tree kind p under beside) = ap suc (count-core beside)
+count-core (Tree kind p under beside) =
+    count-block kind (core_kind kind p) p (if is_function kind then NoTrees else core_forms under) (core_forms beside) ∙ ap suc (count-core beside)
 
 -- what belongs to a function is skipped
 cores-skipped : (k left : ℕ) (e : Expansion) (rest : List ExpandedNode) → cores_in (count_of e + k) left (flat e ++ rest) ≡ cores_in k left rest
@@ -80,14 +104,21 @@ cores-all left (Tree kind p under beside) rest =
     let turned : count_of beside + left + count_of under ≡ count_of under + (count_of beside + left) = omega arith in
     let behind : cores_in 0 (count_of beside + left) rests ≡ after = cores-all left beside rest in
     let core : Forms = if is_function kind then NoTrees else core_forms under in
+    let block : List FormNode = block_node kind p in
+    let own : FormNode = record { kind = core_kind kind p; place = p; parts = count_of core } in
     ap (λ m. cores_in 0 m (node kind p (count_of under) ∷ ((flat under ++ flat beside) ++ rest))) more
-    ∙ ap (λ ns. core_node (node kind p (count_of under)) ∷ cores_in (if is_function kind then count_of under else 0) (if is_function kind then count_of beside + left else count_of beside + left + count_of under) ns)
+    ∙ append_assoc block (core_node (node kind p (count_of under)) ∷ [])
+    (cores_in (if is_function kind then count_of under else 0) (if is_function kind then count_of beside + left else count_of beside + left + count_of under) ((flat under ++ flat beside) ++ rest))
+    ∙ ap (λ ns. block ++ ns)
+    (ap (λ ns. core_node (node kind p (count_of under)) ∷ cores_in (if is_function kind then count_of under else 0) (if is_function kind then count_of beside + left else count_of beside + left + count_of under) ns)
     (append_assoc (flat under) (flat beside) rest)
     ∙ cores-by (is_function kind) (core_kind kind p) p (count_of under) (count_of beside + left) (core_forms under) after
     (λ s m. cores_in s m (flat under ++ rests)) (count-core under)
     (ap (λ s. cores_in s (count_of beside + left) (flat under ++ rests)) none ∙ cores-skipped 0 (count_of beside + left) under rests ∙ behind)
     (ap (λ m. cores_in 0 m (flat under ++ rests)) turned ∙ cores-all (count_of beside + left) under rests ∙ ap (λ ns. preorder (core_forms under) ++ ns) behind)
-    ∙ ap (λ ns. (record { kind = core_kind kind p; place = p; parts = count_of core }) ∷ ns) (sym (append_assoc (preorder core) (preorder (core_forms beside)) (cores_in 0 left rest)))
+    ∙ ap (λ ns. own ∷ ns) (sym (append_assoc (preorder core) (preorder (core_forms beside)) (cores_in 0 left rest))))
+    ∙ sym (append_assoc block (own ∷ (preorder core ++ preorder (core_forms beside))) (cores_in 0 left rest))
+    ∙ ap (λ ns. ns ++ cores_in 0 left rest) (sym (preorder-block kind (core_kind kind p) p core (core_forms beside)))
 
 -- no form of these
 cores-none : (ns : List ExpandedNode) → cores_in 0 0 ns ≡ []
@@ -143,6 +174,7 @@ functions_in (n ∷ ns) = function_here n ns ++ functions_in ns
 -- a function in front of others
 function-first : (kind : Expanded) (p : ℕ) (body : Forms) (fs : List Function) → with_function kind p body [] ++ fs ≡ with_function kind p body fs
 function-first (Form kind) p body fs = refl
+function-first (InBlock n turning) p body fs = refl
 function-first (Lambda parameters) p body fs = refl
 function-first (Defun f parameters) p body fs = refl
 function-first (Refused refusal) p body fs = refl
@@ -150,6 +182,7 @@ function-first (RefusedFunction refusal) p body fs = refl
 
 function-append : (kind : Expanded) (p : ℕ) (body : Forms) (fs gs : List Function) → with_function kind p body fs ++ gs ≡ with_function kind p body (fs ++ gs)
 function-append (Form kind) p body fs gs = refl
+function-append (InBlock n turning) p body fs gs = refl
 function-append (Lambda parameters) p body fs gs = refl
 function-append (Defun f parameters) p body fs gs = refl
 function-append (Refused refusal) p body fs gs = refl

@@ -11,11 +11,13 @@ use Rattle.form_shapes.specs.declared.levels.Numbered.{Numbered}
 use Rattle.form_shapes.specs.Scopes.{Scope}
 use Rattle.lisp_forms.specs.inside.Flat.{flat}
 use Rattle.lisp_forms.specs.Program.{Expands, Known, core_forms, expansion_of, functions_from, functions_of, known_behind, nothing_known, program_refusal, top_forms, variables_from}
+use Rattle.lisp_forms.specs.Blocks.{lowered}
 use Rattle.lisp_forms.specs.Trees.{Expansion}
 use Rattle.lisp_forms.proofs.Cores.{forms_back}
+use Rattle.lisp_forms.proofs.Skipping.{count-lowered}
 
 -- there are as many forms as data
-count-top : (s : Scope) (known : Known) (ds : List Data) → count_of (top_forms s known ds) ≡ length ds
+pub count-top : (s : Scope) (known : Known) (ds : List Data) → count_of (top_forms s known ds) ≡ length ds
 count-top s known [] = refl
 count-top s known (d ∷ ds) = ap suc (count-top s (known_behind s.names d known) ds)
 
@@ -27,11 +29,11 @@ scope_by names texts specials functions levels =
 -- the nodes are those of the expansion
 pub expansion-nodes : (names texts : List (List ℕ)) (ds : List Data) (specials functions : List ℕ) (levels : List Numbered) (nodes : List ExpandedNode)
     → specials ≡ variables_from names [] ds → functions ≡ functions_from names [] ds → levels ≡ []
-    → nodes ≡ flat (top_forms (scope_by names texts specials functions levels) nothing_known ds) → nodes ≡ flat (expansion_of names texts ds)
+    → nodes ≡ flat (lowered [] (top_forms (scope_by names texts specials functions levels) nothing_known ds)) → nodes ≡ flat (expansion_of names texts ds)
 expansion-nodes names texts ds specials functions levels nodes v f none is =
-    is ∙ ap (λ xs. flat (top_forms (scope_by names texts xs functions levels) nothing_known ds)) v
-    ∙ ap (λ xs. flat (top_forms (scope_by names texts (variables_from names [] ds) xs levels) nothing_known ds)) f
-    ∙ ap (λ xs. flat (top_forms (scope_by names texts (variables_from names [] ds) (functions_from names [] ds) xs) nothing_known ds)) none
+    is ∙ ap (λ xs. flat (lowered [] (top_forms (scope_by names texts xs functions levels) nothing_known ds))) v
+    ∙ ap (λ xs. flat (lowered [] (top_forms (scope_by names texts (variables_from names [] ds) xs levels) nothing_known ds))) f
+    ∙ ap (λ xs. flat (lowered [] (top_forms (scope_by names texts (variables_from names [] ds) (functions_from names [] ds) xs) nothing_known ds))) none
 
 -- the parts of a program, by its expansion
 abbrev pub ArePartsOf : List ExpandedNode → ℕ → List FormNode → List FlatFunction → Type 0
@@ -40,7 +42,9 @@ ArePartsOf nodes count main functions =
 
 -- as many forms as the code counts
 counted : (names texts : List (List ℕ)) (ds : List Data) → length ds ≡ count_of (expansion_of names texts ds)
-counted names texts ds = sym (count-top (scope_by names texts (variables_from names [] ds) (functions_from names [] ds) []) nothing_known ds)
+counted names texts ds =
+    let s : Scope = scope_by names texts (variables_from names [] ds) (functions_from names [] ds) [] in
+    sym (count-lowered [] (top_forms s nothing_known ds) ∙ count-top s nothing_known ds)
 
 -- the data are a program
 pub expands : (names texts : List (List ℕ)) (ds : List Data) (nodes : List ExpandedNode) (found : Option Refused) (main : List FormNode) (functions : List FlatFunction) (specials : List ℕ)

@@ -3,6 +3,8 @@ pub mod Tally
 pub mod Binds
 pub mod Specials
 pub mod Skipping
+pub mod Lowering
+pub mod Making
 pub mod Limits
 pub mod Told
 pub mod Cores

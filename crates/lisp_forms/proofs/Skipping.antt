@@ -1,26 +1,19 @@
 -- Forms written flat, of which those in functions are skipped.
-use Rattle.std.proofs.Common.{◌≡◌, ℕ, suc, ◌+◌, ◌<◌, ◌≤◌, Option, List, [], ◌∷◌, ◌++◌, Bool, true, false, ◌||◌, if◌then◌else◌, length, get_or, drop, refl, ap, sym, ◌∙◌, arith, append_assoc, append-nil, add-one, drop-cons}
+use Rattle.std.proofs.Common.{◌≡◌, ℕ, suc, ◌+◌, ◌<◌, ◌≤◌, List, [], ◌∷◌, ◌++◌, Bool, true, false, ◌||◌, if◌then◌else◌, length, get_or, drop, refl, ap, sym, ◌∙◌, arith, append_assoc, append-nil, add-one, drop-cons}
 use Rattle.std.proofs.Math.ListN.{drop_of_length-le}
-use Rattle.lisp_base.specs.Writing.{Wrote}
-use Rattle.lisp_base.proofs.Writing.{Writes, wrote_same, writes_done, writes_next}
 use Rattle.lisp_base.specs.Forest.{NoTrees, Tree, count_of}
 use Rattle.lisp_program.specs.declared.form.CoreKind.TheVariants.{Block}
 use Rattle.form_shapes.specs.declared.expanded.Expanded.{Expanded}
 use Rattle.form_shapes.specs.declared.expanded.ExpandedNode.{ExpandedNode}
 use Rattle.lisp_forms.specs.inside.Flat.{flat, node}
-use Rattle.lisp_forms.specs.Blocks.{is_function, is_return_to, blocked, lowered, lowered_kind, returns_to}
+use Rattle.lisp_forms.specs.Blocks.{is_function, is_return_to, blocked, lowered, returns_to}
 use Rattle.lisp_forms.specs.Trees.{Expansion, form, only}
-use Rattle.lisp_forms.specs.inside.Written.{leaves_here, lowered_node, skipped_behind}
+use Rattle.lisp_forms.specs.inside.Written.{leaves_here, skipped_behind}
 
 -- some of these leaves to the block with this number, where so many forms from here on belong to a function
 abbrev pub found_in : ℕ → ℕ → List ExpandedNode → Bool
 found_in number skipped [] = false
 found_in number skipped (n ∷ ns) = if leaves_here number skipped n then true else found_in number (skipped_behind skipped n) ns
-
--- these without the level with this number
-abbrev pub lowered_in : ℕ → ℕ → List ExpandedNode → List ExpandedNode
-lowered_in number skipped [] = []
-lowered_in number skipped (n ∷ ns) = lowered_node number skipped n ∷ lowered_in number (skipped_behind skipped n) ns
 
 -- what is under a form and beside it, in front of others
 behind_first : (under beside : Expansion) (rest : List ExpandedNode) → (flat under ++ flat beside) ++ rest ≡ flat under ++ (flat beside ++ rest)
@@ -90,75 +83,18 @@ found_later number skipped behind ns i n all h is t next so_far =
     ∙ sym (ap (found_in number skipped) (from ns i n h is) ∙ ap (λ b. if b then true else found_in number (skipped_behind skipped n) (drop (i + 1) ns)) t)
     ∙ so_far
 
--- forms of a function stay as they are
-lowered-skipped : (number k : ℕ) (e : Expansion) (rest : List ExpandedNode) → lowered_in number (count_of e + k) (flat e ++ rest) ≡ flat e ++ lowered_in number k rest
-lowered-skipped number k NoTrees rest = let none : 0 + k ≡ k = omega arith in ap (λ m. lowered_in number m rest) none
-lowered-skipped number k (Tree kind p under beside) rest =
-    let more : suc (count_of beside) + k ≡ suc (count_of beside + k) = omega arith in
-    let turned : count_of beside + k + count_of under ≡ count_of under + (count_of beside + k) = omega arith in
-    ap (λ m. lowered_in number m (node kind p (count_of under) ∷ ((flat under ++ flat beside) ++ rest))) more
-    ∙ ap (λ ns. node kind p (count_of under) ∷ ns)
-    (ap (λ m. lowered_in number m ((flat under ++ flat beside) ++ rest)) turned
-    ∙ ap (lowered_in number (count_of under + (count_of beside + k))) (behind_first under beside rest)
-    ∙ lowered-skipped number (count_of beside + k) under (flat beside ++ rest)
-    ∙ ap (λ ns. flat under ++ ns) (lowered-skipped number k beside rest)
-    ∙ sym (append_assoc (flat under) (flat beside) (lowered_in number k rest)))
-
 -- as many forms as before
-count-lowered : (number : ℕ) (e : Expansion) → count_of (lowered number e) ≡ count_of e
-count-lowered number NoTrees = refl
-count-lowered number (Tree kind p under beside) = ap suc (count-lowered number beside)
-
--- a node, what is under it, and what is behind
-lowered-by : (f : Bool) (k : Expanded) (p : ℕ) (under inner : Expansion) (rests : List ExpandedNode) (written : ℕ → List ExpandedNode) → count_of inner ≡ count_of under
-    → written (count_of under) ≡ flat under ++ rests → written 0 ≡ flat inner ++ rests
-    → node k p (count_of under) ∷ written (if f then count_of under else 0) ≡ node k p (count_of (if f then under else inner)) ∷ (flat (if f then under else inner) ++ rests)
-lowered-by true k p under inner rests written many skipped here = ap (λ ns. node k p (count_of under) ∷ ns) skipped
-lowered-by false k p under inner rests written many skipped here =
-    ap (λ ns. node k p (count_of under) ∷ ns) here ∙ ap (λ m. node k p m ∷ (flat inner ++ rests)) (sym many)
-
--- others lose the level
-lowered-all : (number : ℕ) (e : Expansion) (rest : List ExpandedNode) → lowered_in number 0 (flat e ++ rest) ≡ flat (lowered number e) ++ lowered_in number 0 rest
-lowered-all number NoTrees rest = refl
-lowered-all number (Tree kind p under beside) rest =
-    let rests : List ExpandedNode = flat beside ++ rest in
-    let after : List ExpandedNode = flat (lowered number beside) ++ lowered_in number 0 rest in
-    let none : count_of under ≡ count_of under + 0 = omega arith in
-    let behind : lowered_in number 0 rests ≡ after = lowered-all number beside rest in
-    let inner : Expansion = if is_function kind then under else lowered number under in
-    ap (λ ns. node (lowered_kind number kind) p (count_of under) ∷ lowered_in number (if is_function kind then count_of under else 0) ns) (behind_first under beside rest)
-    ∙ lowered-by (is_function kind) (lowered_kind number kind) p under (lowered number under) after
-    (λ m. lowered_in number m (flat under ++ rests)) (count-lowered number under)
-    (ap (λ m. lowered_in number m (flat under ++ rests)) none ∙ lowered-skipped number 0 under rests ∙ ap (λ ns. flat under ++ ns) behind)
-    (lowered-all number under rests ∙ ap (λ ns. flat (lowered number under) ++ ns) behind)
-    ∙ ap (λ ns. node (lowered_kind number kind) p (count_of inner) ∷ ns) (sym (append_assoc (flat inner) (flat (lowered number beside)) (lowered_in number 0 rest)))
-
--- all of a slice of forms
-pub lowered-flat : (number : ℕ) (e : Expansion) (ns : List ExpandedNode) → ns ≡ flat e → lowered_in number 0 ns ≡ flat (lowered number e)
-lowered-flat number e ns h = ap (lowered_in number 0) (h ∙ sym (append-nil (flat e))) ∙ lowered-all number e [] ∙ append-nil (flat (lowered number e))
-
--- one more is written
-pub lowered_next : (number skipped behind : ℕ) (ns : List ExpandedNode) (i : ℕ) (n : ExpandedNode) (old now new : Option (List ExpandedNode)) (all : List ExpandedNode)
-    → i < length ns → n ≡ get_or ns i n → behind ≡ skipped_behind skipped n → Wrote now new (lowered_node number skipped n ∷ [])
-    → Writes old now (lowered_in number skipped (drop i ns)) all → Writes old new (lowered_in number behind (drop (i + 1) ns)) all
-lowered_next number skipped behind ns i n old now new all h is next pushed so_far =
-    writes_next old now new (lowered_node number skipped n ∷ []) (lowered_in number skipped (drop i ns)) (lowered_in number behind (drop (i + 1) ns)) all so_far pushed
-    (ap (λ ms. lowered_in number skipped ms) (from ns i n h is) ∙ ap (λ m. lowered_node number skipped n ∷ lowered_in number m (drop (i + 1) ns)) (sym next))
+pub count-lowered : (gone : List ℕ) (e : Expansion) → count_of (lowered gone e) ≡ count_of e
+count-lowered gone NoTrees = refl
+count-lowered gone (Tree kind p under beside) = ap suc (count-lowered gone beside)
 
 -- a body is one form in its block, and else as many as before
 pub count_blocked : (number p : ℕ) (e : Expansion) (t : Bool) (count : ℕ) → t ≡ returns_to number e → t ≡ false → count ≡ count_of e → count ≡ count_of (blocked number p e)
 count_blocked number p e t count says is many =
-    many ∙ sym (count-lowered number e) ∙ ap (λ b. count_of (if b then only (form (Block number) p e) else lowered number e)) (sym is ∙ says)
+    many ∙ sym (count-lowered (number ∷ []) e) ∙ ap (λ b. count_of (if b then only (form (Block number) p e) else lowered (number ∷ []) e)) (sym is ∙ says)
 
 -- none is left
 pub found_end : (number skipped i : ℕ) (ns : List ExpandedNode) (e : Expansion) → length ns ≤ i → found_in number skipped (drop i ns) ≡ found_in number 0 ns → ns ≡ flat e
     → false ≡ returns_to number e
 found_end number skipped i ns e h so_far is =
     sym (ap (found_in number skipped) (drop_of_length-le ns {i = i} h)) ∙ so_far ∙ found-flat number e ns is
-
-pub lowered_end : (number skipped i : ℕ) (ns : List ExpandedNode) (e : Expansion) (old now : Option (List ExpandedNode)) → length ns ≤ i
-    → Writes old now (lowered_in number skipped (drop i ns)) (lowered_in number 0 ns) → ns ≡ flat e → Wrote old now (flat (lowered number e))
-lowered_end number skipped i ns e old now h so_far is =
-    wrote_same old now (lowered_in number 0 ns) (flat (lowered number e))
-    (writes_done old now (lowered_in number skipped (drop i ns)) (lowered_in number 0 ns) so_far (ap (λ ms. lowered_in number skipped ms) (drop_of_length-le ns {i = i} h)))
-    (lowered-flat number e ns is)

@@ -20,7 +20,7 @@ use Rattle.form_shapes.specs.declared.operator.Operator.{Operator}
 use Rattle.form_shapes.specs.declared.operator.Operator.TheVariants as op
 use Rattle.form_shapes.specs.Operators.{operator_named}
 use Rattle.form_shapes.specs.declared.expanded.Expanded.{Expanded}
-use Rattle.form_shapes.specs.declared.expanded.Expanded.TheVariants.{Form, Lambda, Defun, Refused as RefusedForm, RefusedFunction}
+use Rattle.form_shapes.specs.declared.expanded.Expanded.TheVariants.{Form, InBlock, Lambda, Defun, Refused as RefusedForm, RefusedFunction}
 use Rattle.form_shapes.specs.declared.keywords.Roles.TheVariants.{Just}
 use Rattle.form_shapes.specs.declared.levels.Level.TheVariants.{Block}
 use Rattle.form_shapes.specs.declared.shape.Shape.{Shape}
@@ -30,7 +30,7 @@ use Rattle.form_shapes.specs.Places.{parameters_in, scope_within}
 use Rattle.form_shapes.specs.Scopes.{Scope, as_variable, first_symbol, has, inside, name_of}
 use Rattle.form_shapes.specs.Shapes.{shape_of}
 use Rattle.lisp_forms.specs.Expansion.{function_body_in, leaf_single, list_form, parts_in}
-use Rattle.lisp_forms.specs.Blocks.{is_function}
+use Rattle.lisp_forms.specs.Blocks.{is_function, lowered, turning_kind}
 use Rattle.lisp_forms.specs.Rows.{defun_form}
 use Rattle.lisp_forms.specs.Trees.{Expansion, Single, in_front, refused}
 
@@ -210,9 +210,9 @@ scope_of names texts ds =
 abbrev pub nothing_known : Known
 nothing_known = record { variables = []; functions = [] }
 
--- what a program stands for, with what is refused of it in its place
+-- what a program stands for, with what is refused of it in its place; of its implicit blocks only those are there to which something returns
 abbrev pub expansion_of : (names texts : List (List ℕ)) → List Data → Expansion
-expansion_of names texts ds = top_forms (scope_of names texts ds) nothing_known ds
+expansion_of names texts ds = lowered [] (top_forms (scope_of names texts ds) nothing_known ds)
 
 -- one refusal comes before another: by place, and at one place by its number
 abbrev pub comes_before : Refused → Refused → Bool
@@ -231,6 +231,7 @@ refused_at refusal p = Some (record { refusal = refusal; place = p })
 -- what is refused of a form by itself
 abbrev pub refusal_of : Expanded → ℕ → Option Refused
 refusal_of (Form kind) p = None
+refusal_of (InBlock n turning) p = None
 refusal_of (Lambda parameters) p = None
 refusal_of (Defun f parameters) p = None
 refusal_of (RefusedForm refusal) p = refused_at refusal p
@@ -269,20 +270,27 @@ program_refusal e = earlier (first_refusal None e) (limit_refusal (past_limit (f
 -- the kind of a form that is not refused; what is given for one that is does not matter
 abbrev pub core_kind : Expanded → ℕ → CoreKind
 core_kind (Form kind) p = kind
+core_kind (InBlock n turning) p = turning_kind turning
 core_kind (Lambda parameters) p = k.Function (At p)
 core_kind (Defun f parameters) p = k.Defun f
 core_kind (RefusedForm refusal) p = k.Constant nil
 core_kind (RefusedFunction refusal) p = k.Constant nil
 
+-- a form with these under it before others, in its block where it has one
+abbrev pub with_block : Expanded → CoreKind → ℕ → (under others : Forms) → Forms
+with_block (InBlock n turning) kind p under others = Tree (k.Block n) p (Tree kind p under NoTrees) others
+with_block _ kind p under others = Tree kind p under others
+
 -- the forms without the bodies of functions
 abbrev pub core_forms : Expansion → Forms
 core_forms NoTrees = NoTrees
 core_forms (Tree kind p under beside) =
-    Tree (core_kind kind p) p (if is_function kind then NoTrees else core_forms under) (core_forms beside)
+    with_block kind (core_kind kind p) p (if is_function kind then NoTrees else core_forms under) (core_forms beside)
 
 -- a function before others
 abbrev pub with_function : Expanded → ℕ → Forms → List Function → List Function
 with_function (Form kind) p body fs = fs
+with_function (InBlock n turning) p body fs = fs
 with_function (Lambda parameters) p body fs = (record { name = At p; place = p; params = parameters; body = body }) ∷ fs
 with_function (Defun f parameters) p body fs = (record { name = Named f; place = p; params = parameters; body = body }) ∷ fs
 with_function (RefusedForm refusal) p body fs = fs

@@ -12,7 +12,9 @@ use Rattle.lisp_program.specs.declared.form.CoreKind.TheVariants as k
 use Rattle.lisp_program.specs.declared.function.Primitive.{Primitive}
 use Rattle.lisp_program.specs.declared.function.Primitive.TheVariants as f
 use Rattle.lisp_program.specs.declared.function.Service.TheVariants as service
-use Rattle.form_shapes.specs.declared.expanded.Expanded.TheVariants.{Lambda, Defun, Refused}
+use Rattle.form_shapes.specs.declared.expanded.Expanded.TheVariants.{InBlock, Lambda, Defun, Refused}
+use Rattle.form_shapes.specs.declared.expanded.Turning.{Turning}
+use Rattle.form_shapes.specs.declared.expanded.Turning.TheVariants.{While, Let}
 use Rattle.form_shapes.specs.declared.keywords.Roles.{Roles}
 use Rattle.form_shapes.specs.declared.keywords.Roles.TheVariants.{From, Values}
 use Rattle.form_shapes.specs.declared.levels.Level.TheVariants.{Block, Region}
@@ -185,9 +187,13 @@ twice_form s p function parts =
 
 -- Loops
 
+-- a `while` or `let` in an implicit block with this number
+abbrev pub in_block : ℕ → Turning → ℕ → Expansion → Single
+in_block n turning p under = record { kind = InBlock n turning; place = p; under = under }
+
 -- `(loop b)` is `(while t b)` in an implicit block NIL
 abbrev pub loop_form : Scope → ℕ → Parts → Single
-loop_form s p parts = first p (blocked s.depth p (only (form k.While p (in_front (true_form p) (parts.body (inside s (Block 0)) 0)))))
+loop_form s p parts = in_block s.depth While p (in_front (true_form p) (parts.body (inside s (Block 0)) 0))
 
 -- what is open in a `dotimes`: its block, a hidden variable for the number of turns, and one for how many are done
 abbrev pub in_dotimes : Scope → Scope
@@ -237,7 +243,7 @@ abbrev pub dotimes_form : Scope → ℕ → (x : ℕ) → Parts → Single
 dotimes_form s p x parts =
     let turns : Single = second p (parts.within (inside s (Block 0)) (From 0)) in
     let result : Option Single = result_of (parts.within (in_turn s x) (From 0)) in
-    first p (blocked s.depth p (only (form k.Let p (three turns (number_form (pos 0) p) (turns_form s p x (parts.body (in_turn s x) 1) result)))))
+    in_block s.depth Let p (three turns (number_form (pos 0) p) (turns_form s p x (parts.body (in_turn s x) 1) result))
 
 -- Frames
 

@@ -2,4 +2,6 @@
 pub mod Firsts
 pub mod Known
 pub mod Flat
+pub mod Made
+pub mod Lowering
 pub mod Written

@@ -1,23 +1,26 @@
-ghost use Rattle.std.specs.Prelude.{◌≡◌, ◌∷◌, [], ◌+◌, ◌^◌, ◌<◌, ℕ};
+ghost use Rattle.std.specs.Prelude.{◌≡◌, ◌∷◌, [], ◌+◌, ◌^◌, ◌<◌, ℕ, IfOk};
 ghost use Rattle.lisp_base.specs.Forest.{count_of};
 ghost use Rattle.lisp_base.specs.Writing.{Wrote};
 ghost use Rattle.lisp_forms.specs.inside.Flat.{flat};
 ghost use Rattle.lisp_forms.specs.Blocks;
 ghost use Rattle.lisp_forms.specs.Trees.{Expansion};
-ghost use Rattle.lisp_forms.specs.inside.Written.{leaves_here, lowered_node, skipped_behind as behind_node};
+ghost use Rattle.lisp_forms.specs.inside.Written.{leaves_here, skipped_behind as behind_node};
 
-use crate::nodes::{push_form, push_node};
+use crate::lowered::lowered;
+use crate::nodes::push_form;
 use form_shapes::expanded::{Expanded, ExpandedNode};
 use lisp_base::id::Place;
+use lisp_base::memory::Memory;
 use lisp_base::writer::Writer;
 use lisp_program::form::CoreKind;
+use std::alloc::Global;
 
 /// Whether what stands for a form is a function: what is in it is another call.
 pub fn is_function(kind: &Expanded) -> bool
     ensures { result ≡ Blocks.is_function kind.now }
 {
     match kind {
-        Expanded::Form(_) | Expanded::Refused(_) => false,
+        Expanded::Form(_) | Expanded::InBlock(_, _) | Expanded::Refused(_) => false,
         Expanded::Lambda(_) | Expanded::Defun(_, _) | Expanded::RefusedFunction(_) => true,
     }
 }
@@ -70,74 +73,9 @@ pub fn skipped_behind(skipped: u128, node: &ExpandedNode) -> u128
     }
 }
 
-/// A number without the level with that number.
-fn less(number: u32, other: u32) -> u32
-    ensures { result ≡ Blocks.less number other }
-{
-    if other > number { other - 1 } else { other }
-}
-
-/// A kind of form without the level with this number.
-fn lowered_core(number: u32, kind: CoreKind) -> CoreKind
-    ensures { result ≡ Blocks.lowered_core number kind }
-{
-    match kind {
-        CoreKind::Local(x) => CoreKind::Local(less(number, x)),
-        CoreKind::SetLocal(x) => CoreKind::SetLocal(less(number, x)),
-        CoreKind::BindLocal(x, above) => CoreKind::BindLocal(less(number, x), above),
-        CoreKind::Block(x) => CoreKind::Block(less(number, x)),
-        CoreKind::ReturnFrom(x) => CoreKind::ReturnFrom(less(number, x)),
-        CoreKind::WithoutInterrupts(x) => CoreKind::WithoutInterrupts(less(number, x)),
-        CoreKind::AllowWithInterrupts(x) => CoreKind::AllowWithInterrupts(less(number, x)),
-        CoreKind::ClauseWith(class, x) => CoreKind::ClauseWith(class, less(number, x)),
-        other => other,
-    }
-}
-
-/// What stands for a form, without the level with this number.
-fn lowered_kind(number: u32, kind: Expanded) -> Expanded
-    ensures { result ≡ Blocks.lowered_kind number kind }
-{
-    match kind {
-        Expanded::Form(kind) => Expanded::Form(lowered_core(number, kind)),
-        other => other,
-    }
-}
-
-/// Writes these without the level with this number.
-fn push_lowered(number: u32, body: &[ExpandedNode], nodes: &mut Writer<ExpandedNode>)
-    ensures { (e : Expansion) → body.now ≡ flat e → Wrote nodes.old nodes.new (flat (Blocks.lowered number e)) }
-{
-    // How many of the next forms belong to functions.
-    let mut skipped: u128 = 0;
-    for node in body {
-        push_lowered_node(number, skipped, node, nodes);
-        skipped = skipped_behind(skipped, node);
-    }
-}
-
-/// Writes a node without the level with this number, where so many of the forms from it on belong to a function.
-fn push_lowered_node(
-    number: u32,
-    skipped: u128,
-    node: &ExpandedNode,
-    nodes: &mut Writer<ExpandedNode>,
-)
-    ensures { Wrote nodes.old nodes.new (lowered_node number skipped node.now ∷ []) }
-{
-    if skipped > 0 {
-        return push_node(node.kind, node.place, node.parts, nodes);
-    }
-    push_node(
-        lowered_kind(number, node.kind),
-        node.place,
-        node.parts,
-        nodes,
-    )
-}
-
-/// Writes a body of so many forms in an implicit block, which is only made where some form in it leaves to it.
+/// Writes the body of a `defun`, of so many forms, in its implicit block, which is only made where some form in it returns to it.
 pub fn push_blocked(
+    alloc: Global,
     number: u32,
     place: Place,
     count: u32,
@@ -146,11 +84,28 @@ pub fn push_blocked(
 )
     ensures { (e : Expansion) → body.now ≡ flat e → count ≡ count_of e → Wrote nodes.old nodes.new (flat (Blocks.blocked number place e)) }
 {
-    if !returns_to(number, body) {
-        return push_lowered(number, body, nodes);
+    if returns_to(number, body) {
+        push_form(CoreKind::Block(number), place, count, nodes);
+        return nodes.extend(body);
     }
-    push_form(CoreKind::Block(number), place, count, nodes);
-    nodes.extend(body);
+    match without_block(alloc, number, count, body) {
+        Ok(lowered) => nodes.extend(lowered.as_slice()),
+        Err(_) => nodes.fill(),
+    }
+}
+
+/// These, of so many forms, where the block with this number round them is not made.
+fn without_block(
+    alloc: Global,
+    number: u32,
+    count: u32,
+    body: &[ExpandedNode],
+) -> Result<Vec<ExpandedNode>, Memory>
+    ensures { IfOk result (λ nodes. (e : Expansion) → body.now ≡ flat e → count ≡ count_of e → nodes.items ≡ flat (Blocks.lowered (number ∷ []) e)) }
+{
+    let mut gone = Vec::new(alloc);
+    gone.push(number)?;
+    lowered(alloc, gone, count, body)
 }
 
 /// How many forms a body of so many is in its implicit block.

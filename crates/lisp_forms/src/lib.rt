@@ -9,6 +9,8 @@ pub mod laws;
 mod lets;
 mod locks;
 mod loops;
+mod lowered;
+mod made;
 mod nodes;
 mod program;
 mod rows;

@@ -7,12 +7,11 @@ ghost use Rattle.lisp_forms.specs.inside.Flat.{flat_one};
 ghost use Rattle.lisp_forms.specs.Rows;
 ghost use Rattle.lisp_forms.specs.inside.Written.{turn_head};
 
-use crate::blocks::push_blocked;
 use crate::expand::{push_all, push_head};
 use crate::lets::bind_kind;
-use crate::nodes::{push_form, push_local, push_nil, push_number, push_true};
+use crate::nodes::{push_form, push_local, push_nil, push_node, push_number, push_true};
 use form_shapes::bindings::{body_of, items_first, open_variable};
-use form_shapes::expanded::ExpandedNode;
+use form_shapes::expanded::{Expanded, ExpandedNode, Turning};
 use form_shapes::keywords::Roles;
 use form_shapes::levels::{Level, Levels, next};
 use form_shapes::scope::{Base, Opened};
@@ -43,14 +42,10 @@ pub fn push_loop(
         return nodes.fill();
     };
     let body = body_of(base.symbols, arguments);
-    let mut turns = Writer::new(alloc);
-    push_form(CoreKind::While, place, body.count() + 1, &mut turns);
-    push_true(place, &mut turns);
-    push_all(alloc, base, &open.levels, open.depth, body, &mut turns);
-    let Ok(turns) = turns.finish() else {
-        return nodes.fill();
-    };
-    push_blocked(depth, place, 1, turns.as_slice(), nodes)
+    let kind = Expanded::InBlock(depth, Turning::While);
+    push_node(kind, place, body.count() + 1, nodes);
+    push_true(place, nodes);
+    push_all(alloc, base, &open.levels, open.depth, body, nodes)
 }
 
 /// What is open in a `dotimes`: its block, and two variables that no program can name.
@@ -81,8 +76,8 @@ pub fn push_dotimes(
         return nodes.fill();
     };
     let items = items_first(&arguments);
-    let mut all = Writer::new(alloc);
-    push_form(CoreKind::Let, place, 3, &mut all);
+    let kind = Expanded::InBlock(depth, Turning::Let);
+    push_node(kind, place, 3, nodes);
     push_head(
         alloc,
         base,
@@ -90,16 +85,12 @@ pub fn push_dotimes(
         block.depth,
         place,
         rest(&items, 1),
-        &mut all,
+        nodes,
     );
-    push_number(0, place, &mut all);
+    push_number(0, place, nodes);
     push_turns(
-        alloc, base, levels, depth, variable, place, arguments, &mut all,
-    );
-    let Ok(all) = all.finish() else {
-        return nodes.fill();
-    };
-    push_blocked(depth, place, 1, all.as_slice(), nodes)
+        alloc, base, levels, depth, variable, place, arguments, nodes,
+    )
 }
 
 /// Writes what a `dotimes` does after its number of turns.

@@ -4,10 +4,11 @@ ghost use Rattle.lisp_program.specs.Forms.{forms_of, preorder};
 ghost use Rattle.lisp_program.specs.Program.{function_of};
 ghost use Rattle.lisp_forms.specs.inside.Flat.{flat};
 ghost use Rattle.lisp_forms.specs.Program;
-ghost use Rattle.lisp_forms.specs.inside.Written.{core_here, core_node, cores_in, function_here, is_done, left_behind};
+ghost use Rattle.lisp_forms.specs.inside.Written.{block_node, core_here, core_node, cores_in, function_here, is_done, left_behind};
 ghost use Rattle.lisp_forms.specs.Trees.{Expansion};
 
 use crate::blocks::{is_function, skipped_behind};
+use crate::lowered::turning_kind;
 use form_shapes::expanded::{Expanded, ExpandedNode};
 use lisp_base::id::{FunctionName, Place};
 use lisp_base::memory::Memory;
@@ -21,6 +22,7 @@ fn core_kind(kind: Expanded, place: Place) -> CoreKind
 {
     match kind {
         Expanded::Form(kind) => kind,
+        Expanded::InBlock(_, turning) => turning_kind(turning),
         Expanded::Lambda(_) => CoreKind::Function(FunctionName::At(place)),
         Expanded::Defun(name, _) => CoreKind::Defun(name),
         Expanded::Refused(_) | Expanded::RefusedFunction(_) => { CoreKind::Constant(Value::nil()) }
@@ -53,13 +55,28 @@ fn is_done(skipped: u128, left: u128) -> bool
     skipped == 0 && left == 0
 }
 
-/// Writes the node of a core form, unless it belongs to a function.
+/// Writes the node of the block that a form has.
+fn push_block(node: &ExpandedNode, forms: &mut Vec<FormNode>) -> Result<(), Memory>
+    ensures { OnOk result (forms.new.items ≡ forms.old.items ++ block_node node.now.kind node.now.place) }
+{
+    if let Expanded::InBlock(number, _) = node.kind {
+        forms.push(FormNode {
+            kind: CoreKind::Block(number),
+            place: node.place,
+            parts: 1,
+        })?;
+    }
+    Ok(())
+}
+
+/// Writes the node of a form and of its block, unless it belongs to a function.
 fn push_here(skipped: u128, node: &ExpandedNode, forms: &mut Vec<FormNode>) -> Result<(), Memory>
     ensures { OnOk result (forms.new.items ≡ forms.old.items ++ core_here skipped node.now) }
 {
     if skipped > 0 {
         return Ok(());
     }
+    push_block(node, forms)?;
     push_core(node, forms)
 }
 

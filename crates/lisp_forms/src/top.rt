@@ -1,15 +1,17 @@
-ghost use Rattle.std.specs.Prelude.{◌≡◌, IfOk, OnOk};
+ghost use Rattle.std.specs.Prelude.{◌≡◌, [], length, IfOk, OnOk};
 ghost use Rattle.lisp_base.specs.Writing.{Wrote};
 ghost use Rattle.lisp_data.specs.Data.{Data, count_of};
 ghost use Rattle.form_shapes.specs.inside.Contexts.{scope_at};
 ghost use Rattle.form_shapes.specs.Scopes.{first_symbol as first_symbol_in};
 ghost use Rattle.form_shapes.specs.Shapes.{shape_of};
+ghost use Rattle.lisp_forms.specs.Blocks;
 ghost use Rattle.lisp_forms.specs.inside.Known.{known_as};
 ghost use Rattle.lisp_forms.specs.inside.Flat.{flat, flat_one};
 ghost use Rattle.lisp_forms.specs.Program;
 
 use crate::blocks::{blocked_parts, push_blocked};
 use crate::expand::{push_all, push_shaped};
+use crate::lowered::lowered;
 use crate::nodes::push_node;
 use crate::program::{
     add_name, built_in, definition_in, definition_of, function_in, function_of, is_built_in,
@@ -197,7 +199,7 @@ fn push_defun(
     let parts = special_parts(base.specials, bound, blocked);
     push_node(Expanded::Defun(name, count), place, parts, nodes);
     push_specials(base.specials, place, bound, blocked, nodes);
-    push_blocked(count, place, forms, inner, nodes)
+    push_blocked(alloc, count, place, forms, inner, nodes)
 }
 
 /// Writes a list of this shape with these arguments at top level.
@@ -269,8 +271,8 @@ fn know(alloc: Global, symbols: &Symbols, datum: &Datum, known: &mut Known) -> R
     add_name(function_of(alloc, symbols, datum)?, &mut known.functions)
 }
 
-/// The expansion of a program.
-pub fn expansion(
+/// The forms of a program, with all their implicit blocks.
+fn top_forms(
     alloc: Global,
     base: &Base,
     levels: &Levels,
@@ -288,4 +290,29 @@ pub fn expansion(
         know(alloc, base.symbols, datum, &mut known)?;
     }
     nodes.finish()
+}
+
+/// How many forms a program has. It errs where the type has no such number, which no text reaches.
+fn count_forms(program: &[Datum]) -> Result<u32, Memory>
+    ensures { IfOk result (λ count. count ≡ length program.now) }
+{
+    match u32::try_from(program.len()) {
+        Ok(count) => Ok(count),
+        Err(_) => Err(Memory),
+    }
+}
+
+/// The expansion of a program.
+pub fn expansion(
+    alloc: Global,
+    base: &Base,
+    levels: &Levels,
+    program: &[Datum],
+) -> Result<Vec<ExpandedNode>, Memory>
+    ensures { IfOk result (λ nodes. nodes.items ≡ flat (Blocks.lowered [] (Program.top_forms (scope_at base.now levels.now 0) Program.nothing_known program.now))) }
+{
+    let count = count_forms(program)?;
+    let forms = top_forms(alloc, base, levels, program)?;
+    let made = lowered(alloc, Vec::new(alloc), count, forms.as_slice())?;
+    Ok(made)
 }

@@ -171,7 +171,7 @@ fn loops_and_their_blocks_are_expanded(rt: HostRuntime) -> Result<(), Fail> {
     check(
         &rt,
         rt.alloc(),
-        r#"cases: 34
+        r#"cases: 36
 (loop) (loop 1 2) => (while T) (while T 1 2)
 (loop (return)) => (block 0 (while T (return 0 NIL)))
 (loop (let ((x 1)) x)) => (while T (let 1 (bind 0 0 (local 0))))
@@ -185,6 +185,8 @@ fn loops_and_their_blocks_are_expanded(rt: HostRuntime) -> Result<(), Fail> {
 (loop (loop (return))) => (while T (block 0 (while T (return 0 NIL))))
 (let ((x 1)) (loop (make-thread (lambda (a b c) c)) (let ((y x)) y))) => (let 1 (bind 0 0 (while T (make-thread (function 32)) (let (local 0) (bind 1 0 (local 1)))))) (function 32 3 (local 2))
 (loop (make-thread (lambda () (block b (return-from b 1))))) => (while T (make-thread (function 19))) (function 19 0 (block 0 (return 0 1)))
+(loop (let ((x 1)) (loop (let ((y x)) (loop (return y)))))) => (while T (let 1 (bind 0 0 (while T (let (local 0) (bind 1 0 (block 2 (while T (return 2 (local 1))))))))))
+(loop (make-thread (lambda (x) (loop (return x)))) (loop 1)) => (while T (make-thread (function 19)) (while T 1)) (function 19 1 (block 1 (while T (return 1 (local 0)))))
 (loop (return (loop (return)))) => (block 0 (while T (return 0 (block 1 (while T (return 1 NIL))))))
 (block a (loop (return-from a))) => (block 0 (while T (return 0 NIL)))
 (block a (loop (return) (return-from a 1))) => (block 0 (block 1 (while T (return 1 NIL) (return 0 1))))

@@ -23,7 +23,7 @@ fn blanks_and_comments_separate(rt: HostRuntime) -> Result<(), Fail> {
 -- only a newline ends a comment
 ; a␍b => ‹›
 ; a␌b‹c2 85›c‹e2 80 a8›d => ‹›
--- what comes before and behind
+-- what comes before and after
 ␠a => A@1
 a␠ => A@0
 a;b => A@0

@@ -1,8 +1,8 @@
 //! What texts read as over tables of names and string literals, as text, for the tests of the reader.
 use crate::form_text::{expansion, verdict};
-use lisp_base::id::{Micros, StringId, SymbolId};
+use lisp_base::id::{Micros, Place, StringId, SymbolId};
 use lisp_base::memory::Memory;
-use lisp_base::refusal::{Refused, Rejection};
+use lisp_base::refusal::{Refusal, Rejection};
 use lisp_data::datum::{Datum, DatumKind, DatumNode};
 use lisp_reader::reader::read_program;
 use std::alloc::{AllocError, Global};
@@ -50,10 +50,15 @@ impl Tables {
         &mut self,
         alloc: Global,
         text: &[u8],
-    ) -> Result<Result<Vec<Datum>, Refused>, Fail> {
+    ) -> Result<Result<Vec<Datum>, (Refusal, u32)>, Fail> {
         match read_program(alloc, text, &mut self.symbols, &mut self.texts) {
             Ok(data) => Ok(Ok(data)),
-            Err(Rejection::Refused { refusal, place }) => Ok(Err(Refused { refusal, place })),
+            Err(
+                Rejection::Refused {
+                    refusal,
+                    place: Place(place),
+                },
+            ) => Ok(Err((refusal, place))),
             Err(error) => Err(error.into()),
         }
     }
@@ -63,10 +68,9 @@ impl Tables {
         let outcome = self.read(alloc, text)?;
         let mut printed = match &outcome {
             Ok(data) => self.told(alloc, data.as_slice(), told)?,
-            Err(Refused { refusal, place }) => {
+            Err((refusal, place)) => {
                 let name = refusal.name();
-                let at = place.0;
-                format!(in alloc; "refusal {name} at {at}")?
+                format!(in alloc; "refusal {name} at {place}")?
             }
         };
         match told {

@@ -198,7 +198,7 @@ a. => Symbol(SymbolId(5))@0 A.
 &rest => Symbol(SymbolId(5))@0 &REST
 !?$%_^~@ => Symbol(SymbolId(5))@0 !?$%_^~@
 azAZ09+-*/<>=!?$%&_^~@. => Symbol(SymbolId(5))@0 AZAZ09+-*/<>=!?$%&_^~@.
--- behind the prefix of a package
+-- after the prefix of a package
 cl:car => Symbol(SymbolId(5))@0 CAR
 cl::car => Symbol(SymbolId(5))@0 CAR
 CL:CAR => Symbol(SymbolId(5))@0 CAR

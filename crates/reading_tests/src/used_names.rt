@@ -9,7 +9,7 @@ fn a_program_has_4096_symbols_at_most(rt: HostRuntime) -> Result<(), Fail> {
         &rt,
         rt.alloc(),
         r#"cases: 7
--- 4,090 keywords behind the five first symbols, and QUOTE
+-- 4,090 keywords after the five first symbols, and QUOTE
 ‹1000..5090×:№ ›'nil => 4093
 'T nil :warn :punt :Force :1000 :5089 "a" 1 => 11
 x => refusal TooManySymbols at 0

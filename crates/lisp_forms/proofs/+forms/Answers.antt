@@ -101,6 +101,10 @@ expand::push_over-returns t c =
     (over c.args.kind c.args.place c.parts_of-parts.result _ [] _ _
     (c.parts_of-parts.ensures.is ∙ ap (parts_of c.args.roles 0) c.count.ensures.is ∙ sym (count-roles (scope_at c.args.base.now c.args.levels.now c.args.depth) c.args.roles 0 c.args.arguments)) refl refl)
 
+pub expand::push_shaped-returns-in-Dotimes : goal.expand::push_shaped-returns-in-Dotimes
+expand::push_shaped-returns-in-Dotimes t c =
+    rw c.in-Dotimes.is c.push_dotimes.ensures
+
 pub expand::push_shaped-returns-in-Mutex : goal.expand::push_shaped-returns-in-Mutex
 expand::push_shaped-returns-in-Mutex t c =
     rw c.in-Mutex.is c.push_mutex.ensures
@@ -196,16 +200,14 @@ locks::push_timeout-returns t c =
 pub loops::push_dotimes-returns : goal.loops::push_dotimes-returns
 loops::push_dotimes-returns t c =
     dotimes_written (scope_at c.args.base.now c.args.levels.now c.args.depth) c.in-Ok.block c.args.place c.nil.result c.args.variable c.args.arguments
-    c.items_first-items.result c.rest.result _ _ c.as_slice.result.now _ _ c.in-Ok.ensures c.nil.ensures c.items_first-items.ensures.is c.rest.ensures.is
-    (c.as_slice.ensures.value ∙ written_whole _ _ c.in-Ok-finish.all.items _ c.new-all.ensures c.in-Ok-finish.ensures
-    (wrote_both _ _ _ _ _ (wrote_both _ _ _ _ _ (wrote_both _ _ _ _ _ c.push_form.ensures c.push_head.ensures) c.push_number.ensures) c.push_turns.ensures)) c.push_blocked.ensures
+    c.items_first-items.result c.rest.result _ _ _ _ c.in-Ok.ensures c.nil.ensures c.items_first-items.ensures.is c.rest.ensures.is
+    (wrote_both _ _ _ _ _ (wrote_both _ _ _ _ _ (wrote_both _ _ _ _ _ c.push_node.ensures c.push_head.ensures) c.push_number.ensures) c.push_turns.ensures)
 
 pub loops::push_loop-returns : goal.loops::push_loop-returns
 loops::push_loop-returns t c =
     loop_written (scope_at c.args.base.now c.args.levels.now c.args.depth) c.in-Ok.open c.args.place c.nil.result c.count.result c.args.arguments
-    c.body_of-body.result c.as_slice.result.now _ _ c.in-Ok.ensures c.nil.ensures c.body_of-body.ensures.is c.count.ensures.is
-    (c.as_slice.ensures.value ∙ written_whole _ _ c.in-Ok-finish.turns.items _ c.new-turns.ensures c.in-Ok-finish.ensures
-    (wrote_both _ _ _ _ _ (wrote_both _ _ _ _ _ c.push_form.ensures c.push_true.ensures) c.push_all.ensures)) c.push_blocked.ensures
+    c.body_of-body.result _ _ c.in-Ok.ensures c.nil.ensures c.body_of-body.ensures.is c.count.ensures.is
+    (wrote_both _ _ _ _ _ (wrote_both _ _ _ _ _ c.push_node.ensures c.push_true.ensures) c.push_all.ensures)
 
 pub loops::push_turns-returns : goal.loops::push_turns-returns
 loops::push_turns-returns t c =

@@ -11,7 +11,8 @@ use Rattle.lisp_program.specs.declared.function.Service.TheVariants as service
 use Rattle.lisp_data.specs.Data.{Data, NoData, Atom, Listed}
 use Rattle.lisp_data.specs.declared.items.First.{First}
 use Rattle.lisp_data.specs.declared.items.First.TheVariants.{Leaf as LeafFirst, List as ListFirst}
-use Rattle.form_shapes.specs.declared.expanded.Expanded.TheVariants.{Form}
+use Rattle.form_shapes.specs.declared.expanded.Expanded.{Expanded}
+use Rattle.form_shapes.specs.declared.expanded.Expanded.TheVariants.{Form, InBlock}
 use Rattle.form_shapes.specs.declared.expanded.ExpandedNode.{ExpandedNode}
 use Rattle.form_shapes.specs.declared.keywords.Roles.TheVariants.{From}
 use Rattle.form_shapes.specs.Bindings.{bound_in_list, opened_by}
@@ -20,7 +21,7 @@ use Rattle.lisp_forms.specs.declared.locks.Lock.{Lock}
 use Rattle.lisp_forms.specs.Expansion.{behind_variable, by_roles, is_none}
 use Rattle.lisp_forms.specs.inside.Flat.{flat, flat_one, node}
 use Rattle.lisp_forms.specs.Program.{core_kind, with_function}
-use Rattle.lisp_forms.specs.Blocks.{is_function, is_return_to, lowered_kind}
+use Rattle.lisp_forms.specs.Blocks.{is_function, is_return_to}
 use Rattle.lisp_forms.specs.Rows.{bind_kind, release_form}
 use Rattle.lisp_forms.specs.Trees.{Expansion, Single, first, nil_form, progn_form}
 
@@ -110,7 +111,7 @@ locked_nodes l p body =
     ∷ (node (Form (k.AllowWithInterrupts l.region)) p 1
     ∷ (node (Form k.WithInterrupts) p (count_of body) ∷ (flat body ++ (flat_one (nil_form p) ++ flat_one (release_form l.mutex l.grabbed p)))))
 
--- the node of a core form, which has no parts where it is a function
+-- the node of a form, which has no parts where it is a function
 abbrev pub core_node : ExpandedNode → FormNode
 core_node n = record { kind = core_kind n.kind n.place; place = n.place; parts = if is_function n.kind then 0 else n.parts }
 
@@ -135,15 +136,10 @@ abbrev pub skipped_behind : ℕ → ExpandedNode → ℕ
 skipped_behind zero n = if is_function n.kind then n.parts else 0
 skipped_behind (suc skipped) n = skipped + n.parts
 
--- a node leaves to the block with this number, where so many of the forms from it on belong to a function
+-- a node returns to the block with this number, where so many of the forms from it on belong to a function
 abbrev pub leaves_here : ℕ → ℕ → ExpandedNode → Bool
 leaves_here number zero n = is_return_to number n.kind
 leaves_here number (suc skipped) n = false
-
--- a node without the level with this number, where so many of the forms from it on belong to a function
-abbrev pub lowered_node : ℕ → ℕ → ExpandedNode → ExpandedNode
-lowered_node number zero n = node (lowered_kind number n.kind) n.place n.parts
-lowered_node number (suc skipped) n = n
 
 -- a clause is counted, and what is no list is not
 abbrev pub one_list : First → ℕ
@@ -156,9 +152,14 @@ is_done (suc skipped) left = false
 is_done zero (suc left) = false
 is_done zero zero = true
 
+-- the node of the block that a form has, before its own
+abbrev pub block_node : Expanded → ℕ → List FormNode
+block_node (InBlock n turning) p = (record { kind = k.Block n; place = p; parts = 1 }) ∷ []
+block_node _ p = []
+
 -- what is written for a node, where so many of the forms from it on belong to a function
 abbrev pub core_here : ℕ → ExpandedNode → List FormNode
-core_here zero n = core_node n ∷ []
+core_here zero n = block_node n.kind n.place ++ core_node n ∷ []
 core_here (suc skipped) n = []
 
 -- how many forms are left after a node

@@ -4,7 +4,7 @@ use Rattle.form_shapes.specs.inside.Contexts.{scope_at}
 use Rattle.lisp_forms.specs.inside.Known.{known_as}
 use Rattle.lisp_forms.specs.inside.Flat.{flat}
 use Rattle.lisp_forms.specs.Program
-use Rattle.lisp_forms.proofs.top.expansion.Given as goal
+use Rattle.lisp_forms.proofs.top.top_forms.Given as goal
 
 -- the forms so far, with those of the data that are left, are all
 abbrev pub invariant-loop-datum : goal.invariant-loop-datum

@@ -1,0 +1,16 @@
+use Rattle.std.proofs.Common.{◌∙◌, ap, reverse, sym}
+use Rattle.form_shapes.specs.inside.Contexts.{scope_at}
+use Rattle.form_shapes.specs.Scopes.{Scope}
+use Rattle.lisp_forms.specs.Blocks.{lowered}
+use Rattle.lisp_forms.specs.Program.{nothing_known, top_forms}
+use Rattle.lisp_forms.specs.Trees.{Expansion}
+use Rattle.lisp_forms.specs.inside.Flat.{flat}
+use Rattle.lisp_forms.proofs.Expands.{count-top}
+use Rattle.lisp_forms.proofs.top.expansion.Goals as goal
+
+pub returns : goal.returns
+returns c =
+    let s : Scope = scope_at c.args.base.now c.args.levels.now 0 in
+    let e : Expansion = top_forms s nothing_known c.args.program.now in
+    c.in_ok-made.ensures e (c.as_slice.ensures.value ∙ c.in_ok-forms.ensures) (c.in_ok-count.ensures ∙ sym (count-top s nothing_known c.args.program.now))
+    ∙ ap (λ gone. flat (lowered (reverse gone) e)) c.new.ensures.items
