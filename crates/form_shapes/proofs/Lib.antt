@@ -2,7 +2,6 @@ pub mod Odd
 pub mod Bound
 pub mod Counted
 pub mod Served
-pub mod Operators
 pub mod Openings
 pub mod Counts
 pub mod Sized

@@ -117,11 +117,11 @@ abbrev pub is_declaration : List (List ℕ) → Data → Bool
 is_declaration names under = is_named names (codes "DECLARE") (first_symbol under) && not (has_special names under)
 
 -- the forms of a body, after its declarations
-abbrev pub body_of : List (List ℕ) → Data → Data
-body_of names NoData = NoData
-body_of names (Atom leaf p beside) = Atom leaf p beside
-body_of names (Listed p under beside) = if is_declaration names under then body_of names beside else Listed p under beside
+abbrev pub after_declarations : List (List ℕ) → Data → Data
+after_declarations names NoData = NoData
+after_declarations names (Atom leaf p beside) = Atom leaf p beside
+after_declarations names (Listed p under beside) = if is_declaration names under then after_declarations names beside else Listed p under beside
 
 -- the forms of a function's body: a string that stands first, with something after it, stands for nothing
 abbrev pub function_body_of : List (List ℕ) → Data → Data
-function_body_of names d = if is_text_first d && nat_lt 1 (count_of d) then body_of names (behind 1 d) else body_of names d
+function_body_of names d = if is_text_first d && nat_lt 1 (count_of d) then after_declarations names (behind 1 d) else after_declarations names d

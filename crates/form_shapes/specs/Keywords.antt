@@ -5,7 +5,7 @@ use Rattle.lisp_program.specs.declared.function.Service.TheVariants.{MakeThread,
 use Rattle.lisp_data.specs.Data.{Data, behind, count_of}
 use Rattle.form_shapes.specs.declared.keywords.Keys.{Keys}
 use Rattle.form_shapes.specs.declared.keywords.Role.{Role}
-use Rattle.form_shapes.specs.declared.keywords.Role.TheVariants.{Value, Place, Skipped}
+use Rattle.form_shapes.specs.declared.keywords.Role.TheVariants.{Value, Seat, Skipped}
 use Rattle.form_shapes.specs.declared.keywords.Roles.{Roles}
 use Rattle.form_shapes.specs.declared.keywords.Roles.TheVariants.{From, Just, Keyed, KeyedFunction, ThenFunction, Values}
 use Rattle.form_shapes.specs.Bindings.{is_named}
@@ -147,17 +147,17 @@ abbrev pub role_at : Roles → ℕ → Role
 role_at (From n) i = value_if (not (nat_lt i n))
 role_at (Just n) i = value_if (i == n)
 role_at (Keyed n) i = if nat_lt i n then Value else pair_role (i - n)
-role_at KeyedFunction i = if i == 0 then Place else pair_role (i - 1)
-role_at ThenFunction i = if i == 1 then Place else Value
+role_at KeyedFunction i = if i == 0 then Seat else pair_role (i - 1)
+role_at ThenFunction i = if i == 1 then Seat else Value
 role_at (Values n) i = if nat_lt i n then Skipped else pair_role (i - n)
 
 -- one more part, where an argument has one
 abbrev pub counted : Role → ℕ → ℕ
 counted Value n = suc n
-counted Place n = suc n
+counted Seat n = suc n
 counted Skipped n = n
 
 -- how many parts so many arguments have, of which the first has this number
-abbrev pub parts_of : Roles → ℕ → ℕ → ℕ
-parts_of roles i zero = 0
-parts_of roles i (suc n) = counted (role_at roles i) (parts_of roles (suc i) n)
+abbrev pub part_count : Roles → ℕ → ℕ → ℕ
+part_count roles i zero = 0
+part_count roles i (suc n) = counted (role_at roles i) (part_count roles (suc i) n)

@@ -6,5 +6,5 @@ pub mod Bindings
 pub mod Keywords
 pub mod Clauses
 pub mod Shapes
-pub mod Places
+pub mod Seats
 pub mod inside

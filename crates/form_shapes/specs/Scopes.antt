@@ -66,12 +66,6 @@ first_symbol NoData = None
 first_symbol (Atom leaf p beside) = leaf_symbol leaf
 first_symbol (Listed p under beside) = None
 
--- the place of the first of these
-abbrev pub first_place : Data → ℕ
-first_place NoData = 0
-first_place (Atom leaf p beside) = p
-first_place (Listed p under beside) = p
-
 -- A symbol that may be bound, set or defined: neither one that stands for itself nor the present thread.
 abbrev pub is_variable_name : List (List ℕ) → ℕ → Bool
 is_variable_name names x = not (is_constant (name_of names x) || is_current_thread (name_of names x))

@@ -5,7 +5,7 @@ ghost use Rattle.lisp_data.specs.First.{with_first};
 ghost use Rattle.form_shapes.specs.Bindings;
 ghost use Rattle.form_shapes.specs.inside.Contexts.{is_told, scope_in, with_opened};
 ghost use Rattle.form_shapes.specs.inside.One.{bound_by, is_declared, items_first, let_variables, symbol_by};
-ghost use Rattle.form_shapes.specs.Places.{parameters_in, scope_within};
+ghost use Rattle.form_shapes.specs.Seats.{parameters_in, scope_within};
 ghost use Rattle.form_shapes.specs.Scopes;
 ghost use Rattle.form_shapes.specs.Scopes.{Scope};
 ghost use Rattle.form_shapes.specs.inside.Sizes.{size_of};
@@ -316,8 +316,8 @@ fn is_declared(symbols: &Symbols, first: First) -> bool
 }
 
 /// The forms of a body, after its declarations.
-pub fn body_of<'a>(symbols: &Symbols, items: Items<'a>) -> Items<'a>
-    ensures is { result ≡ Bindings.body_of symbols.now items.entry }
+pub fn after_declarations<'a>(symbols: &Symbols, items: Items<'a>) -> Items<'a>
+    ensures is { result ≡ Bindings.after_declarations symbols.now items.entry }
     ensures small { size_of result ≤ size_of items.entry }
 {
     let mut left = items;
@@ -336,7 +336,7 @@ pub fn function_body_of<'a>(symbols: &Symbols, items: Items<'a>) -> Items<'a>
     ensures small { size_of result ≤ size_of items.entry }
 {
     if is_text_first(&items) && items.count() > 1 {
-        return body_of(symbols, rest(&items, 1));
+        return after_declarations(symbols, rest(&items, 1));
     }
-    body_of(symbols, items)
+    after_declarations(symbols, items)
 }

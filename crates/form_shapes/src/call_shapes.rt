@@ -6,10 +6,10 @@ use crate::bindings::MOST;
 use crate::control::{has_tilde, taken_by, text_of};
 use crate::expanded::Expanded;
 use crate::keywords::{Roles, first_key, keys_in, positional, roles_of, second_key, with_keys};
-use crate::scope::{Context, constant, first_symbol, is_named};
+use crate::scope::{Context, constant, is_named};
 use crate::shape::{Shape, bad, fixed};
 use lisp_base::condition::{Class, Condition};
-use lisp_base::id::{Place, SymbolId};
+use lisp_base::id::{Place, StringId, SymbolId};
 use lisp_base::refusal::Refusal;
 use lisp_base::value::Node;
 use lisp_data::datum::Leaf;
@@ -107,24 +107,6 @@ pub fn serve_shape(symbols: &Symbols, place: Place, service: Service, arguments:
     }
 }
 
-/// `error` with a text.
-fn error_of(context: &Context, place: Place, leaf: Leaf) -> Shape
-    ensures { result ≡ Shapes.error_of (scope_in context.now) place leaf }
-{
-    match leaf {
-        Leaf::Text(text) => {
-            if has_tilde(text_of(context.texts, text)) {
-                return bad(place);
-            }
-            Shape::Leaf(Expanded::Form(CoreKind::Signal(Condition {
-                class: Class::SimpleError,
-                text: Some(text),
-            })))
-        }
-        _ => bad(place),
-    }
-}
-
 /// `error` with these arguments.
 pub fn error_shape(context: &Context, place: Place, arguments: &Items) -> Shape
     ensures { result ≡ Shapes.error_shape (scope_in context.now) place arguments.now }
@@ -132,42 +114,64 @@ pub fn error_shape(context: &Context, place: Place, arguments: &Items) -> Shape
     let Some((first, others)) = arguments.split_first() else {
         return bad(place);
     };
-    match first {
-        First::Leaf(leaf, _) if others.count() == 0 => error_of(context, place, leaf),
-        _ => bad(place),
-    }
-}
-
-/// `format` with this control and so many arguments.
-fn format_of(context: &Context, place: Place, leaf: Leaf, given: u32) -> Shape
-    ensures { result ≡ Shapes.format_of (scope_in context.now) place leaf given }
-{
+    let First::Leaf(leaf, _) = first else {
+        return bad(place);
+    };
     let Leaf::Text(text) = leaf else {
         return bad(place);
     };
-    match taken_by(text_of(context.texts, text)) {
-        None => bad(place),
-        Some(taken) if (given as usize) < taken => bad(place),
-        Some(_) if given > MOST => Shape::Wrong(Refusal::TooMany, place),
-        Some(_) => Shape::Over(
-            CoreKind::Print(Printing::Format(text, given)),
-            Roles::From(2),
-        ),
+    if others.count() != 0 || has_tilde(text_of(context.texts, text)) {
+        return bad(place);
     }
+    Shape::Leaf(Expanded::Form(CoreKind::Signal(Condition {
+        class: Class::SimpleError,
+        text: Some(text),
+    })))
+}
+
+/// `format` of this control, which takes so many arguments, with so many given.
+fn format_given(place: Place, control: StringId, taken: usize, given: u32) -> Shape
+    ensures { result ≡ Shapes.format_given place control taken given }
+{
+    if (given as usize) < taken {
+        return bad(place);
+    }
+    if given > MOST {
+        return Shape::Wrong(Refusal::TooMany, place);
+    }
+    Shape::Over(
+        CoreKind::Print(Printing::Format(control, given)),
+        Roles::From(2),
+    )
 }
 
 /// `format` with these arguments.
 pub fn format_shape(context: &Context, place: Place, arguments: &Items) -> Shape
     ensures { result ≡ Shapes.format_shape (scope_in context.now) place arguments.now }
 {
-    if !is_named(context.symbols, "T", first_symbol(arguments)) {
-        return bad(place);
-    }
-    let Some((first, others)) = arguments.skip(1).split_first() else {
+    let Some((first, others)) = arguments.split_first() else {
         return bad(place);
     };
-    match first {
-        First::Leaf(leaf, _) => format_of(context, place, leaf, others.count()),
-        First::List(_, _) => bad(place),
+    let First::Leaf(leaf, _) = first else {
+        return bad(place);
+    };
+    let Leaf::Symbol(symbol) = leaf else {
+        return bad(place);
+    };
+    let Some((first, others)) = others.split_first() else {
+        return bad(place);
+    };
+    let First::Leaf(leaf, _) = first else {
+        return bad(place);
+    };
+    let Leaf::Text(control) = leaf else {
+        return bad(place);
+    };
+    if !is_named(context.symbols, "T", Some(symbol)) {
+        return bad(place);
+    }
+    match taken_by(text_of(context.texts, control)) {
+        None => bad(place),
+        Some(taken) => format_given(place, control, taken, others.count()),
     }
 }

@@ -1,36 +1,51 @@
-ghost use Rattle.std.specs.Prelude.{◌≡◌, IfOk};
+ghost use Rattle.std.specs.Prelude.{◌≡◌, ℕ, IfOk};
+ghost use Rattle.lisp_data.specs.Data.{Atom, NoData};
 ghost use Rattle.form_shapes.specs.inside.Contexts.{scope_in};
+ghost use Rattle.form_shapes.specs.Levels.{number_of};
 ghost use Rattle.form_shapes.specs.Shapes;
 
 use crate::bindings::{list_fault, parameters_of};
 use crate::clause::{MOST_CLAUSES, are_clauses};
 use crate::keywords::{Roles, keys_in};
 use crate::levels::Level;
-use crate::scope::{Context, as_variable, first_symbol, has, is_named, leaf_symbol};
+use crate::scope::{Context, as_variable, first_symbol, has, is_named};
 use crate::shape::{Shape, bad, where_holds};
 use lisp_base::id::{Place, SymbolId};
 use lisp_base::memory::Memory;
 use lisp_base::refusal::Refusal;
+use lisp_data::datum::Leaf;
 use lisp_data::items::{First, Items};
 use lisp_program::form::CoreKind;
 use std::alloc::Global;
 use symbol_table::symbols::Symbols;
 
-/// A block with what may be a name.
-pub fn block_of(place: Place, name: Option<SymbolId>) -> Shape
-    ensures { result ≡ Shapes.block_of place name }
+/// `block` with these arguments.
+pub fn block_shape(place: Place, arguments: &Items) -> Shape
+    ensures { result ≡ Shapes.block_shape place arguments.now }
 {
-    match name {
-        None => bad(place),
-        Some(name) => Shape::Block(name),
+    let Some((first, _)) = arguments.split_first() else {
+        return bad(place);
+    };
+    let First::Leaf(leaf, _) = first else {
+        return bad(place);
+    };
+    match leaf {
+        Leaf::Symbol(name) => Shape::Block(name),
+        _ => bad(place),
     }
 }
 
-/// An exit to a block with this number, if there is one; its value, if it has one, comes after so many arguments.
-fn exit_of(place: Place, block: Option<u32>, has_value: bool, behind: u32) -> Shape
-    ensures { result ≡ Shapes.exit_of place block has_value behind }
+/// An exit to the innermost block with this name; its value, if it has one, comes after so many arguments.
+fn exit_shape(
+    context: &Context,
+    place: Place,
+    name: SymbolId,
+    has_value: bool,
+    behind: u32,
+) -> Shape
+    ensures { result ≡ Shapes.exit_shape (scope_in context.now) place name has_value behind }
 {
-    match block {
+    match context.levels.number_of(&Level::Block(name)) {
         None => Shape::Wrong(Refusal::NoSuchBlock, place),
         Some(number) if has_value => {
             Shape::Over(CoreKind::ReturnFrom(number), Roles::From(behind))
@@ -43,17 +58,20 @@ fn exit_of(place: Place, block: Option<u32>, has_value: bool, behind: u32) -> Sh
 pub fn return_from_shape(context: &Context, place: Place, arguments: &Items) -> Shape
     ensures { result ≡ Shapes.return_from_shape (scope_in context.now) place arguments.now }
 {
-    let count = arguments.count();
-    if count != 1 && count != 2 {
+    let Some((first, others)) = arguments.split_first() else {
+        return bad(place);
+    };
+    let First::Leaf(leaf, _) = first else {
+        return bad(place);
+    };
+    let Leaf::Symbol(name) = leaf else {
+        return bad(place);
+    };
+    let count = others.count();
+    if count > 1 {
         return bad(place);
     }
-    match first_symbol(arguments) {
-        None => bad(place),
-        Some(name) => {
-            let block = context.levels.number_of(&Level::Block(name));
-            exit_of(place, block, count == 2, 1)
-        }
-    }
+    exit_shape(context, place, name, count == 1, 1)
 }
 
 /// `return` with these arguments: its block has the name NIL.
@@ -64,25 +82,31 @@ pub fn return_shape(context: &Context, place: Place, arguments: &Items) -> Shape
     if count > 1 {
         return bad(place);
     }
-    let block = context.levels.number_of(&Level::Block(SymbolId::nil()));
-    exit_of(place, block, count == 1, 0)
+    exit_shape(context, place, SymbolId::nil(), count == 1, 0)
 }
 
-/// `allow-with-interrupts`, where what a written `without-interrupts` round it remembers has this number, if there is one.
-pub fn allow_shape(place: Place, region: Option<u32>) -> Shape
-    ensures { result ≡ Shapes.allow_shape place region }
+/// The number of what the innermost written `without-interrupts` remembers, if there is one.
+fn written_region(context: &Context) -> Option<u32>
+    ensures { result ≡ number_of Level.Region context.now.levels.now }
 {
-    match region {
+    context.levels.number_of(&Level::Region)
+}
+
+/// `allow-with-interrupts`, which stands only in a written `without-interrupts`.
+pub fn allow_shape(context: &Context, place: Place) -> Shape
+    ensures { result ≡ Shapes.in_region (scope_in context.now) place (λ n. Shape.Body (CoreKind.AllowWithInterrupts n)) }
+{
+    match written_region(context) {
         None => Shape::Wrong(Refusal::RegionOutside, place),
         Some(number) => Shape::Body(CoreKind::AllowWithInterrupts(number)),
     }
 }
 
-/// `with-local-interrupts`, where what a written `without-interrupts` round it remembers has this number, if there is one.
-pub fn local_shape(place: Place, region: Option<u32>) -> Shape
-    ensures { result ≡ Shapes.local_shape place region }
+/// `with-local-interrupts`, which stands only in a written `without-interrupts`.
+pub fn local_shape(context: &Context, place: Place) -> Shape
+    ensures { result ≡ Shapes.in_region (scope_in context.now) place (λ n. Shape.LocalInterrupts n) }
 {
-    match region {
+    match written_region(context) {
         None => Shape::Wrong(Refusal::RegionOutside, place),
         Some(number) => Shape::LocalInterrupts(number),
     }
@@ -103,22 +127,11 @@ pub fn handler_shape(symbols: &Symbols, place: Place, arguments: &Items) -> Shap
     Shape::Handler
 }
 
-/// What the first of these holds, where it is a list.
-fn listed_first<'a>(arguments: &Items<'a>) -> Option<Items<'a>>
-    ensures { result ≡ Shapes.listed_first arguments.now }
-{
-    let (first, _) = arguments.split_first()?;
-    match first {
-        First::Leaf(_, _) => None,
-        First::List(_, under) => Some(under),
-    }
-}
-
 /// `with-deadline` with these arguments.
 pub fn deadline_shape(symbols: &Symbols, place: Place, arguments: &Items) -> Shape
-    ensures { result ≡ Shapes.deadline_of symbols.now place (Shapes.listed_first arguments.now) }
+    ensures { result ≡ Shapes.deadline_shape symbols.now place arguments.now }
 {
-    let Some(items) = listed_first(arguments) else {
+    let Some((First::List(_, items), _)) = arguments.split_first() else {
         return bad(place);
     };
     match keys_in(symbols, ":SECONDS", ":OVERRIDE", items) {
@@ -132,9 +145,9 @@ pub fn deadline_shape(symbols: &Symbols, place: Place, arguments: &Items) -> Sha
 
 /// `with-mutex` with these arguments.
 pub fn mutex_shape(symbols: &Symbols, place: Place, arguments: &Items) -> Shape
-    ensures { result ≡ Shapes.mutex_of symbols.now place (Shapes.listed_first arguments.now) }
+    ensures { result ≡ Shapes.mutex_shape symbols.now place arguments.now }
 {
-    let Some(items) = listed_first(arguments) else {
+    let Some((First::List(_, items), _)) = arguments.split_first() else {
         return bad(place);
     };
     if items.count() == 0 {
@@ -151,19 +164,21 @@ pub fn mutex_shape(symbols: &Symbols, place: Place, arguments: &Items) -> Shape
 
 /// `with-recursive-lock` with these arguments.
 pub fn lock_shape(place: Place, arguments: &Items) -> Shape
-    ensures { result ≡ Shapes.lock_of place (Shapes.listed_first arguments.now) }
+    ensures { result ≡ Shapes.lock_shape place arguments.now }
 {
-    match listed_first(arguments) {
-        None => bad(place),
-        Some(items) => where_holds(place, items.count() == 1, Shape::RecursiveLock),
+    match arguments.split_first() {
+        Some((First::List(_, items), _)) => {
+            where_holds(place, items.count() == 1, Shape::RecursiveLock)
+        }
+        _ => bad(place),
     }
 }
 
 /// `dotimes` with these arguments.
 pub fn dotimes_shape(symbols: &Symbols, place: Place, arguments: &Items) -> Shape
-    ensures { result ≡ Shapes.dotimes_of symbols.now place (Shapes.listed_first arguments.now) }
+    ensures { result ≡ Shapes.dotimes_shape symbols.now place arguments.now }
 {
-    let Some(items) = listed_first(arguments) else {
+    let Some((First::List(_, items), _)) = arguments.split_first() else {
         return bad(place);
     };
     let count = items.count();
@@ -176,18 +191,7 @@ pub fn dotimes_shape(symbols: &Symbols, place: Place, arguments: &Items) -> Shap
     }
 }
 
-/// `#'` of what may be the name of a function, outside a function's place.
-fn named_outside(context: &Context, place: Place, name: Option<SymbolId>) -> Shape
-    ensures { result ≡ Shapes.named_outside (scope_in context.now) place name }
-{
-    match name {
-        None => bad(place),
-        Some(name) if has(context.functions, name) => Shape::Wrong(Refusal::FunctionPlace, place),
-        Some(_) => Shape::Wrong(Refusal::UnknownOperator, place),
-    }
-}
-
-/// A `lambda` with these arguments outside a function's place.
+/// A `lambda` with these arguments outside a function's seat.
 pub fn lambda_outside(
     alloc: Global,
     place: Place,
@@ -203,23 +207,20 @@ pub fn lambda_outside(
     }
 }
 
-/// `#'` of a list of these outside a function's place.
-fn list_outside(
-    alloc: Global,
-    symbols: &Symbols,
-    place: Place,
-    at: Place,
-    under: &Items,
-) -> Result<Shape, Memory>
-    ensures { IfOk result (λ shape. shape ≡ Shapes.list_outside symbols.now place at under.now) }
+/// `#'` of a leaf outside a function's seat.
+fn named_outside(context: &Context, place: Place, leaf: Leaf) -> Shape
+    ensures { (at : ℕ) → result ≡ Shapes.function_outside (scope_in context.now) place (Atom leaf at NoData) }
 {
-    if !is_named(symbols, "LAMBDA", first_symbol(under)) {
-        return Ok(bad(place));
+    match leaf {
+        Leaf::Symbol(name) if has(context.functions, name) => {
+            Shape::Wrong(Refusal::FunctionPlace, place)
+        }
+        Leaf::Symbol(_) => Shape::Wrong(Refusal::UnknownOperator, place),
+        _ => bad(place),
     }
-    lambda_outside(alloc, at, symbols, &under.skip(1))
 }
 
-/// `#'` of these outside a function's place.
+/// `#'` of these outside a function's seat.
 pub fn function_outside(
     alloc: Global,
     context: &Context,
@@ -235,7 +236,12 @@ pub fn function_outside(
         return Ok(bad(place));
     }
     match first {
-        First::Leaf(leaf, _) => Ok(named_outside(context, place, leaf_symbol(leaf))),
-        First::List(at, under) => list_outside(alloc, context.symbols, place, at, &under),
+        First::Leaf(leaf, _) => Ok(named_outside(context, place, leaf)),
+        First::List(at, under) => {
+            if !is_named(context.symbols, "LAMBDA", first_symbol(&under)) {
+                return Ok(bad(place));
+            }
+            lambda_outside(alloc, at, context.symbols, &under.skip(1))
+        }
     }
 }

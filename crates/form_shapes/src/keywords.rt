@@ -18,8 +18,8 @@ pub struct Keys {
 pub enum Role {
     /// A form that gives a value.
     Value,
-    /// A function: the argument is a function's place.
-    Place,
+    /// A function: the argument is a function's seat, as the first of `make-thread` is.
+    Seat,
     /// No form: a name, a keyword, or a string that stands for nothing.
     Skipped,
 }
@@ -33,9 +33,9 @@ pub enum Roles {
     Just(u32),
     /// The first so many are values, and then come keywords with values.
     Keyed(u32),
-    /// The first stands in a function's place, and then come keywords with values.
+    /// The first stands in a function's seat, and then come keywords with values.
     KeyedFunction,
-    /// The second stands in a function's place.
+    /// The second stands in a function's seat.
     ThenFunction,
     /// After the first so many come keywords with values; only these values are values.
     Values(u32),
@@ -193,9 +193,9 @@ pub fn role_at(roles: Roles, index: u32) -> Role
         Roles::Just(number) => value_if(index == number),
         Roles::Keyed(first) if index < first => Role::Value,
         Roles::Keyed(first) => pair_role(index - first),
-        Roles::KeyedFunction if index == 0 => Role::Place,
+        Roles::KeyedFunction if index == 0 => Role::Seat,
         Roles::KeyedFunction => pair_role(index - 1),
-        Roles::ThenFunction if index == 1 => Role::Place,
+        Roles::ThenFunction if index == 1 => Role::Seat,
         Roles::ThenFunction => Role::Value,
         Roles::Values(first) if index < first => Role::Skipped,
         Roles::Values(first) => pair_role(index - first),
@@ -208,15 +208,15 @@ fn counted(role: Role, parts: u32) -> u32
     ensures { result ≡ Keywords.counted role parts }
 {
     match role {
-        Role::Value | Role::Place => parts + 1,
+        Role::Value | Role::Seat => parts + 1,
         Role::Skipped => parts,
     }
 }
 
 /// How many parts so many arguments have.
-pub fn parts_of(roles: Roles, count: u32) -> u32
+pub fn part_count(roles: Roles, count: u32) -> u32
     requires { count < 2 ^ 30 }
-    ensures is { result ≡ Keywords.parts_of roles 0 count }
+    ensures is { result ≡ Keywords.part_count roles 0 count }
     ensures few { result < 2 ^ 30 }
 {
     let mut parts = 0;

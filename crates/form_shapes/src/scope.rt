@@ -161,19 +161,6 @@ pub fn first_symbol(items: &Items) -> Option<SymbolId>
     }
 }
 
-/// The place of the first of these.
-pub fn first_place(items: &Items) -> Place
-    ensures { result ≡ Scopes.first_place items.now }
-{
-    match items.split_first() {
-        None => Place(0),
-        Some((first, _)) => match first {
-            First::Leaf(_, place) => place,
-            First::List(place, _) => place,
-        },
-    }
-}
-
 /// Whether a symbol may be bound, set or defined.
 pub fn is_variable_name(symbols: &Symbols, symbol: SymbolId) -> bool
     ensures { result ≡ Scopes.is_variable_name symbols.now symbol }

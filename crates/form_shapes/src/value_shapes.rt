@@ -1,55 +1,34 @@
 ghost use Rattle.std.specs.Prelude.{◌≡◌};
 ghost use Rattle.form_shapes.specs.inside.Contexts.{scope_in};
-ghost use Rattle.form_shapes.specs.inside.One.{placed_symbol, quoted_first};
 ghost use Rattle.form_shapes.specs.Shapes;
 
 use crate::expanded::Expanded;
 use crate::keywords::Roles;
-use crate::scope::{
-    Context, as_variable, first_place, first_symbol, has, is_named, is_variable_name, leaf_symbol,
-    quoted_leaf, target_of,
-};
+use crate::scope::{Context, has, is_named, is_variable_name, quoted_leaf, target_of};
 use crate::shape::{Shape, bad, fixed, where_holds};
 use lisp_base::id::{Place, SymbolId};
 use lisp_base::refusal::Refusal;
 use lisp_base::value::Value;
+use lisp_data::datum::Leaf;
 use lisp_data::items::{First, Items};
 use lisp_program::form::CoreKind;
 use lisp_program::function::Primitive;
 use symbol_table::symbols::Symbols;
 
-/// A list of so many items that is quoted: `()` is NIL.
-fn quoted_list(count: u32) -> Expanded
-    ensures { result ≡ Shapes.quoted_list count }
-{
-    if count == 0 {
-        Expanded::Form(CoreKind::Constant(Value::nil()))
-    } else {
-        Expanded::Refused(Refusal::BadForm)
-    }
-}
-
-/// A datum that is quoted.
-fn quoted_first(first: &First) -> Expanded
-    ensures { result ≡ quoted_first first.now }
-{
-    match first {
-        First::Leaf(leaf, _) => quoted_leaf(*leaf),
-        First::List(_, under) => quoted_list(under.count()),
-    }
-}
-
-/// What is quoted: one leaf, or one list without items.
+/// What is quoted: one leaf, or `()`, which is NIL.
 pub fn quoted(arguments: &Items) -> Expanded
     ensures { result ≡ Shapes.quoted arguments.now }
 {
     let Some((first, others)) = arguments.split_first() else {
         return Expanded::Refused(Refusal::BadForm);
     };
-    if others.count() > 0 {
-        return Expanded::Refused(Refusal::BadForm);
+    match first {
+        First::Leaf(leaf, _) if others.count() == 0 => quoted_leaf(leaf),
+        First::List(_, under) if others.count() == 0 && under.count() == 0 => {
+            Expanded::Form(CoreKind::Constant(Value::nil()))
+        }
+        _ => Expanded::Refused(Refusal::BadForm),
     }
-    quoted_first(&first)
 }
 
 /// `if` with or without its third form.
@@ -62,16 +41,6 @@ pub fn if_shape(place: Place, arguments: &Items) -> Shape
     fixed(place, CoreKind::If, 3, arguments)
 }
 
-/// Whether a symbol may be bound, set or defined.
-fn is_settable(symbols: &Symbols, symbol: Option<SymbolId>) -> bool
-    ensures { result ≡ Shapes.is_settable symbols.now symbol }
-{
-    match symbol {
-        None => false,
-        Some(symbol) => is_variable_name(symbols, symbol),
-    }
-}
-
 /// Whether these are pairs of a variable and a value.
 fn are_pairs(symbols: &Symbols, items: Items) -> bool
     ensures { result ≡ Shapes.are_pairs symbols.now items.entry }
@@ -81,10 +50,13 @@ fn are_pairs(symbols: &Symbols, items: Items) -> bool
         let First::Leaf(leaf, _) = first else {
             return false;
         };
+        let Leaf::Symbol(symbol) = leaf else {
+            return false;
+        };
         let Some((_, behind)) = others.split_first() else {
             return false;
         };
-        if !is_settable(symbols, leaf_symbol(leaf)) {
+        if !is_variable_name(symbols, symbol) {
             return false;
         }
         left = behind;
@@ -104,25 +76,6 @@ pub fn setq_shape(symbols: &Symbols, place: Place, arguments: Items) -> Shape
     )
 }
 
-/// `incf` or `decf` of what may be a variable, which is at a place.
-fn change_of(
-    context: &Context,
-    place: Place,
-    function: Primitive,
-    variable: Option<SymbolId>,
-    at: Place,
-) -> Shape
-    ensures { result ≡ Shapes.change_of (scope_in context.now) place function variable at }
-{
-    match variable {
-        None => bad(place),
-        Some(symbol) => match target_of(context, symbol) {
-            None => Shape::Wrong(Refusal::UnknownVariable, at),
-            Some(target) => Shape::Change(target, function),
-        },
-    }
-}
-
 /// `incf` or `decf` with these arguments.
 pub fn change_shape(
     context: &Context,
@@ -132,75 +85,91 @@ pub fn change_shape(
 ) -> Shape
     ensures { result ≡ Shapes.change_shape (scope_in context.now) place function arguments.now }
 {
-    let count = arguments.count();
-    if count != 1 && count != 2 {
+    let Some((first, others)) = arguments.split_first() else {
+        return bad(place);
+    };
+    let First::Leaf(leaf, at) = first else {
+        return bad(place);
+    };
+    let Leaf::Symbol(symbol) = leaf else {
+        return bad(place);
+    };
+    if others.count() >= 2 || !is_variable_name(context.symbols, symbol) {
         return bad(place);
     }
-    let variable = as_variable(context.symbols, first_symbol(arguments));
-    change_of(context, place, function, variable, first_place(arguments))
-}
-
-/// The symbol that a datum is, and its place.
-fn placed_symbol(first: &First) -> Option<(SymbolId, Place)>
-    ensures { result ≡ placed_symbol first.now }
-{
-    match first {
-        First::Leaf(leaf, place) => Some((leaf_symbol(*leaf)?, *place)),
-        First::List(_, _) => None,
+    match target_of(context, symbol) {
+        None => Shape::Wrong(Refusal::UnknownVariable, at),
+        Some(target) => Shape::Change(target, function),
     }
 }
 
-/// The symbol that is quoted in a list of these, and its place.
-fn quoted_in(symbols: &Symbols, under: &Items) -> Option<(SymbolId, Place)>
-    ensures { result ≡ Shapes.quoted_in symbols.now under.now }
+/// The symbol s and its place, where these are the items of `'s`.
+fn quoted_symbol(symbols: &Symbols, items: &Items) -> Option<(SymbolId, Place)>
+    ensures { result ≡ Shapes.quoted_symbol symbols.now items.now }
 {
-    if under.count() != 2 || !is_named(symbols, "QUOTE", first_symbol(under)) {
+    let (first, others) = items.split_first()?;
+    let First::Leaf(leaf, _) = first else {
+        return None;
+    };
+    let Leaf::Symbol(operator) = leaf else {
+        return None;
+    };
+    let (second, behind) = others.split_first()?;
+    let First::Leaf(leaf, at) = second else {
+        return None;
+    };
+    let Leaf::Symbol(symbol) = leaf else {
+        return None;
+    };
+    if behind.count() != 0 || !is_named(symbols, "QUOTE", Some(operator)) {
         return None;
     }
-    let (first, _) = under.skip(1).split_first()?;
-    placed_symbol(&first)
+    Some((symbol, at))
 }
 
-/// The symbol s, and its place, where these are the items of `(symbol-value 's)`.
-fn value_in(symbols: &Symbols, under: &Items) -> Option<(SymbolId, Place)>
-    ensures { result ≡ Shapes.value_in symbols.now under.now }
+/// The symbol s and its place, where these are the items of `(symbol-value 's)`.
+fn valued_symbol(symbols: &Symbols, items: &Items) -> Option<(SymbolId, Place)>
+    ensures { result ≡ Shapes.valued_symbol symbols.now items.now }
 {
-    if under.count() != 2 || !is_named(symbols, "SYMBOL-VALUE", first_symbol(under)) {
+    let (first, others) = items.split_first()?;
+    let First::Leaf(leaf, _) = first else {
+        return None;
+    };
+    let Leaf::Symbol(function) = leaf else {
+        return None;
+    };
+    let (second, behind) = others.split_first()?;
+    let First::List(_, under) = second else {
+        return None;
+    };
+    if behind.count() != 0 {
         return None;
     }
-    let (first, _) = under.skip(1).split_first()?;
-    match first {
-        First::Leaf(_, _) => None,
-        First::List(_, items) => quoted_in(symbols, &items),
+    if !is_named(symbols, "SYMBOL-VALUE", Some(function)) {
+        return None;
     }
-}
-
-/// The symbol s, and its place, where the first of these is `(symbol-value 's)`.
-fn value_first(symbols: &Symbols, arguments: &Items) -> Option<(SymbolId, Place)>
-    ensures { result ≡ Shapes.value_first symbols.now arguments.now }
-{
-    let (first, _) = arguments.split_first()?;
-    match first {
-        First::Leaf(_, _) => None,
-        First::List(_, under) => value_in(symbols, &under),
-    }
+    quoted_symbol(symbols, &under)
 }
 
 /// `compare-and-swap` with these arguments.
 pub fn swap_shape(context: &Context, place: Place, arguments: &Items) -> Shape
     ensures { result ≡ Shapes.swap_shape (scope_in context.now) place arguments.now }
 {
-    if arguments.count() != 3 {
+    let Some((first, others)) = arguments.split_first() else {
+        return bad(place);
+    };
+    let First::List(_, under) = first else {
+        return bad(place);
+    };
+    if others.count() != 2 {
         return bad(place);
     }
-    match value_first(context.symbols, arguments) {
-        None => bad(place),
-        Some((symbol, at)) => {
-            if has(context.specials, symbol) {
-                Shape::Over(CoreKind::CompareAndSwap(symbol), Roles::From(1))
-            } else {
-                Shape::Wrong(Refusal::UnknownVariable, at)
-            }
-        }
+    let Some((symbol, at)) = valued_symbol(context.symbols, &under) else {
+        return bad(place);
+    };
+    if has(context.specials, symbol) {
+        Shape::Over(CoreKind::CompareAndSwap(symbol), Roles::From(1))
+    } else {
+        Shape::Wrong(Refusal::UnknownVariable, at)
     }
 }

@@ -2,7 +2,7 @@ ghost use Rattle.std.specs.Prelude.{◌≡◌, IfOk};
 ghost use Rattle.form_shapes.specs.Bindings.{opened as opened_of, received_by};
 ghost use Rattle.form_shapes.specs.inside.Contexts.{scope_at, with_opened};
 ghost use Rattle.form_shapes.specs.inside.One.{symbol_by as symbol_of};
-ghost use Rattle.form_shapes.specs.Places.{placed_of as placed_as, scope_within};
+ghost use Rattle.form_shapes.specs.Seats.{seated_of as seated_as, scope_within};
 ghost use Rattle.form_shapes.specs.Scopes.{inside, leaf_form as leaf_form_of, target_in};
 ghost use Rattle.form_shapes.specs.Shapes.{shape_of};
 
@@ -10,10 +10,10 @@ use crate::bindings::{open_parameter, opened, received};
 use crate::expanded::Expanded;
 use crate::led::shape_led;
 use crate::levels::{Level, Levels};
-use crate::place::{Placed, placed_of};
 use crate::scope::{
     Base, Opened, Target, context_at, first_symbol, leaf_form, opened_in, opened_with, operator_at,
 };
+use crate::seat::{Seated, seated_of};
 use crate::shape::Shape;
 use crate::single::target_by;
 use lisp_base::id::{Place, SymbolId};
@@ -45,18 +45,18 @@ pub fn shape_within(
     shape_led(alloc, &context, place, operator, under.skip(1))
 }
 
-/// What a list of these is in a function's place.
-pub fn placed_within(
+/// What a list of these is in a function's seat.
+pub fn seated_within(
     alloc: Global,
     base: &Base,
     levels: &Levels,
     depth: u32,
     place: Place,
     under: &Items,
-) -> Result<Placed, Memory>
-    ensures { IfOk result (λ placed. placed ≡ placed_as (scope_at base.now levels.now depth) place under.now) }
+) -> Result<Seated, Memory>
+    ensures { IfOk result (λ seated. seated ≡ seated_as (scope_at base.now levels.now depth) place under.now) }
 {
-    placed_of(alloc, &context_at(base, levels, depth), place, under)
+    seated_of(alloc, &context_at(base, levels, depth), place, under)
 }
 
 /// The variable that a datum is.

@@ -12,9 +12,9 @@ count_of NoTrees = 0
 count_of (Tree k p under beside) = suc (count_of beside)
 
 -- the trees of both, one after the other
-abbrev pub joined : {K : Type 0} → Forest K → Forest K → Forest K
-joined NoTrees g = g
-joined (Tree k p under beside) g = Tree k p under (joined beside g)
+abbrev pub append : {K : Type 0} → Forest K → Forest K → Forest K
+append NoTrees g = g
+append (Tree k p under beside) g = Tree k p under (append beside g)
 
 -- the first n trees
 abbrev pub front : {K : Type 0} → ℕ → Forest K → Forest K

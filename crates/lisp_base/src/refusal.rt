@@ -34,7 +34,7 @@ pub enum Refusal {
     BadForm,
     /// A symbol is no variable.
     UnknownVariable,
-    /// A function stands outside a function's place, or another form in one.
+    /// A function stands outside a function's seat, or another form in one.
     FunctionPlace,
     /// A region stands outside the region that it needs round it.
     RegionOutside,

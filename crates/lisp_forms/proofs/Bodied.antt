@@ -1,6 +1,6 @@
 -- Forms with bodies, written in several steps.
 use Rattle.std.proofs.Common.{◌≡◌, ℕ, suc, ◌+◌, List, [], ◌∷◌, ◌++◌, Bool, true, false, true≢false, if◌then◌else◌, Option, Some, None, unwrap_or, refl, ap, subst, sym, ◌∙◌, append-nil, add-one}
-use Rattle.lisp_base.specs.Forest.{count_of, joined}
+use Rattle.lisp_base.specs.Forest.{count_of, append}
 use Rattle.lisp_base.specs.declared.condition.Class.{Class}
 use Rattle.lisp_base.specs.declared.condition.Class.TheVariants.{Condition}
 use Rattle.lisp_program.specs.declared.form.CoreKind.{CoreKind}
@@ -13,16 +13,16 @@ use Rattle.form_shapes.specs.declared.expanded.Expanded.TheVariants.{Form}
 use Rattle.form_shapes.specs.declared.expanded.ExpandedNode.{ExpandedNode}
 use Rattle.form_shapes.specs.declared.keywords.Roles.{Roles}
 use Rattle.form_shapes.specs.declared.levels.Level.TheVariants.{Variable}
-use Rattle.form_shapes.specs.Bindings.{body_of, received_by}
+use Rattle.form_shapes.specs.Bindings.{after_declarations, received_by}
 use Rattle.form_shapes.specs.Clauses.{class_of, clause_variable}
-use Rattle.form_shapes.specs.Keywords.{parts_of}
+use Rattle.form_shapes.specs.Keywords.{part_count}
 use Rattle.form_shapes.specs.inside.One.{is_list, items_first, symbol_by}
 use Rattle.form_shapes.specs.Scopes.{Scope, deeper, has, inside}
 use Rattle.lisp_forms.specs.Expansion.{body_in, by_roles, clause_in, forms_in, in_clause, or_condition, within_first}
 use Rattle.lisp_forms.specs.inside.Flat.{flat, flat_one, node}
 use Rattle.lisp_forms.specs.Rows.{clause_form, local}
 use Rattle.lisp_forms.specs.Trees.{Expansion, Single, both, form, in_front, only, three}
-use Rattle.lisp_forms.proofs.Parts.{body-forms, count-forms, count-joined, count-roles, flat-joined, last_step, two_steps, within-items}
+use Rattle.lisp_forms.proofs.Parts.{body-forms, count-forms, count-append, count-roles, flat-append, last_step, two_steps, within-items}
 
 -- what is written in three steps
 pub three_steps : (old a b new x y z : List ExpandedNode) → a ≡ old ++ x → b ≡ a ++ y → new ≡ b ++ z → new ≡ old ++ (x ++ (y ++ z))
@@ -54,12 +54,12 @@ under_form kind p n fs old mid new many begun h =
     last_step old mid new (node (Form kind) p n ∷ []) (flat fs) (flat_one (form kind p fs)) begun (ap (λ m. node (Form kind) p m ∷ flat fs) many) h
 
 -- the forms of a body
-pub body-is : (s : Scope) (n : ℕ) (args left body : Data) → left ≡ behind n args → body ≡ body_of s.names left → forms_in s body ≡ body_in s n args
-body-is s n args left body from is = ap (forms_in s) (is ∙ ap (body_of s.names) from) ∙ sym (body-forms s n args)
+pub body-is : (s : Scope) (n : ℕ) (args left body : Data) → left ≡ behind n args → body ≡ after_declarations s.names left → forms_in s body ≡ body_in s n args
+body-is s n args left body from is = ap (forms_in s) (is ∙ ap (after_declarations s.names) from) ∙ sym (body-forms s n args)
 
 -- a form with a body
 pub body_form : (s : Scope) (kind : CoreKind) (p n count : ℕ) (args left body : Data) (old mid new : List ExpandedNode)
-    → left ≡ behind n args → body ≡ body_of s.names left → count ≡ data_in body → mid ≡ old ++ node (Form kind) p count ∷ []
+    → left ≡ behind n args → body ≡ after_declarations s.names left → count ≡ data_in body → mid ≡ old ++ node (Form kind) p count ∷ []
     → new ≡ mid ++ flat (forms_in s body) → new ≡ old ++ flat_one (form kind p (body_in s n args))
 body_form s kind p n count args left body old mid new from is many begun h =
     subst (λ fs. new ≡ old ++ flat_one (form kind p fs)) (body-is s n args left body from is)
@@ -67,7 +67,7 @@ body_form s kind p n count args left body old mid new from is many begun h =
 
 -- a form with one in front of a body
 pub front_form : (s : Scope) (kind : CoreKind) (p n count : ℕ) (a : Single) (args left body : Data) (old one mid new : List ExpandedNode)
-    → left ≡ behind n args → body ≡ body_of s.names left → count ≡ data_in body → one ≡ old ++ node (Form kind) p (count + 1) ∷ []
+    → left ≡ behind n args → body ≡ after_declarations s.names left → count ≡ data_in body → one ≡ old ++ node (Form kind) p (count + 1) ∷ []
     → mid ≡ one ++ flat_one a → new ≡ mid ++ flat (forms_in s body) → new ≡ old ++ flat_one (form kind p (in_front a (body_in s n args)))
 front_form s kind p n count a args left body old one mid new from is many begun first h =
     let all : count + 1 ≡ suc (count_of (forms_in s body)) = add-one count ∙ ap suc (many ∙ sym (count-forms s body)) in
@@ -76,20 +76,20 @@ front_form s kind p n count a args left body old one mid new from is many begun 
     (ap (λ m. node (Form kind) p m ∷ (flat_one a ++ flat (forms_in s body))) all) h)
 
 -- a form with others in front of a body
-pub joined_form : (s : Scope) (kind : CoreKind) (roles : Roles) (p n parts count : ℕ) (args items left body : Data) (old one mid new : List ExpandedNode)
-    → items ≡ items_first args → left ≡ behind n args → body ≡ body_of s.names left → parts ≡ parts_of roles 0 (data_in items) → count ≡ data_in body
+pub append_form : (s : Scope) (kind : CoreKind) (roles : Roles) (p n parts count : ℕ) (args items left body : Data) (old one mid new : List ExpandedNode)
+    → items ≡ items_first args → left ≡ behind n args → body ≡ after_declarations s.names left → parts ≡ part_count roles 0 (data_in items) → count ≡ data_in body
     → one ≡ old ++ node (Form kind) p (parts + count) ∷ [] → mid ≡ one ++ flat (by_roles s roles 0 items) → new ≡ mid ++ flat (forms_in s body)
-    → new ≡ old ++ flat_one (form kind p (joined (within_first s roles args) (body_in s n args)))
-joined_form s kind roles p n parts count args items left body old one mid new within from is few many begun first h =
+    → new ≡ old ++ flat_one (form kind p (append (within_first s roles args) (body_in s n args)))
+append_form s kind roles p n parts count args items left body old one mid new within from is few many begun first h =
     let fs : Expansion = by_roles s roles 0 items in
     let gs : Expansion = forms_in s body in
     let front : fs ≡ within_first s roles args = ap (by_roles s roles 0) within ∙ sym (within-items s roles args) in
-    let all : parts + count ≡ count_of (joined fs gs) =
-    ap (λ m. m + count) (few ∙ sym (count-roles s roles 0 items)) ∙ ap (λ m. count_of fs + m) (many ∙ sym (count-forms s body)) ∙ sym (count-joined fs gs) in
-    subst (λ es. new ≡ old ++ flat_one (form kind p (joined es (body_in s n args)))) front
-    (subst (λ es. new ≡ old ++ flat_one (form kind p (joined fs es))) (body-is s n args left body from is)
+    let all : parts + count ≡ count_of (append fs gs) =
+    ap (λ m. m + count) (few ∙ sym (count-roles s roles 0 items)) ∙ ap (λ m. count_of fs + m) (many ∙ sym (count-forms s body)) ∙ sym (count-append fs gs) in
+    subst (λ es. new ≡ old ++ flat_one (form kind p (append es (body_in s n args)))) front
+    (subst (λ es. new ≡ old ++ flat_one (form kind p (append fs es))) (body-is s n args left body from is)
     (last_step old mid new ((node (Form kind) p (parts + count) ∷ []) ++ flat fs) (flat gs) _ (two_steps old one mid (node (Form kind) p (parts + count) ∷ []) (flat fs) begun first)
-    (ap (λ m. node (Form kind) p m ∷ (flat fs ++ flat gs)) all ∙ ap (λ ns. node (Form kind) p (count_of (joined fs gs)) ∷ ns) (sym (flat-joined fs gs))) h))
+    (ap (λ m. node (Form kind) p m ∷ (flat fs ++ flat gs)) all ∙ ap (λ ns. node (Form kind) p (count_of (append fs gs)) ∷ ns) (sym (flat-append fs gs))) h))
 
 -- what is written of a clause whose variable is special
 flat-special : (t : Bool) (n p x count : ℕ) (class : Class) (fs : Expansion) → t ≡ true → count ≡ count_of fs
@@ -134,7 +134,7 @@ clause-first s p (ListFirst q under) others h = absurd (true≢false h)
 -- the same, by what the code has read of it
 pub clause-is : (s : Scope) (p : ℕ) (under others left body : Data) (first : First) (class : Class) (named : Option Class) (symbol x : Option ℕ)
     → under ≡ with_first first others → is_list first ≡ false → symbol ≡ symbol_by first → named ≡ class_of s.names symbol → class ≡ unwrap_or named Condition
-    → clause_variable others ≡ x → left ≡ behind 1 others → body ≡ body_of s.names left
+    → clause_variable others ≡ x → left ≡ behind 1 others → body ≡ after_declarations s.names left
     → clause_form s s.depth p class x (forms_in (in_clause s x) body) ≡ clause_in s p under
 clause-is s p under others left body first class named symbol x e leaf symbolic read or is from stripped =
     let same : or_condition (class_of s.names (symbol_by first)) ≡ class = sym (or ∙ ap or_condition (read ∙ ap (class_of s.names) symbolic)) in
@@ -142,7 +142,7 @@ clause-is s p under others left body first class named symbol x e leaf symbolic 
     sym (ap (clause_in s p) e ∙ clause-first s p first others leaf
     ∙ ap (λ y. clause_form s s.depth p (or_condition (class_of s.names (symbol_by first))) y (body_in (in_clause s y) 1 others)) is
     ∙ ap (λ g. clause_form s s.depth p g x (body_in (in_clause s x) 1 others)) same
-    ∙ ap (clause_form s s.depth p class x) (sym (body-is (in_clause s x) 1 others left body from (stripped ∙ ap (λ ns. body_of ns left) (sym (named-in x))))))
+    ∙ ap (clause_form s s.depth p class x) (sym (body-is (in_clause s x) 1 others left body from (stripped ∙ ap (λ ns. after_declarations ns left) (sym (named-in x))))))
   where
     names-by : (s : Scope) (x : ℕ) → (received_by s x).names ≡ s.names
     names-by s x = by (has s.specials x)

@@ -1,7 +1,7 @@
 -- The forms and the functions of an expansion, from its nodes.
 use Rattle.std.proofs.Common.{◌≡◌, ℕ, suc, ◌+◌, ◌<◌, ◌≤◌, List, [], ◌∷◌, ◌++◌, Bool, true, false, if◌then◌else◌, length, get_or, drop, refl, ap, sym, ◌∙◌, arith, append_assoc, append-nil, add-one, drop-cons}
 use Rattle.std.proofs.Math.ListN.{drop_of_length-le}
-use Rattle.lisp_base.specs.Forest.{Forest, NoTrees, Tree, behind, count_of, front, joined}
+use Rattle.lisp_base.specs.Forest.{Forest, NoTrees, Tree, behind, count_of, front, append}
 use Rattle.lisp_program.specs.Forms.{Forms, forms_of, preorder}
 use Rattle.lisp_program.specs.Program.{Function}
 use Rattle.lisp_program.specs.declared.form.CoreKind.{CoreKind}
@@ -17,31 +17,31 @@ use Rattle.lisp_forms.specs.Trees.{Expansion}
 use Rattle.lisp_forms.specs.inside.Written.{block_node, core_here, core_node, cores_in, function_here, is_done, left_behind, skipped_behind}
 
 -- the first so many of two forests are the first
-front-joined : {K : Type 0} (f g : Forest K) → front (count_of f) (joined f g) ≡ f
-front-joined NoTrees g = refl
-front-joined (Tree k p under beside) g = ap (Tree k p under) (front-joined beside g)
+front-append : {K : Type 0} (f g : Forest K) → front (count_of f) (append f g) ≡ f
+front-append NoTrees g = refl
+front-append (Tree k p under beside) g = ap (Tree k p under) (front-append beside g)
 
 -- what is behind them is the second
-behind-joined : {K : Type 0} (f g : Forest K) → behind (count_of f) (joined f g) ≡ g
-behind-joined NoTrees g = refl
-behind-joined (Tree k p under beside) g = behind-joined beside g
+behind-append : {K : Type 0} (f g : Forest K) → behind (count_of f) (append f g) ≡ g
+behind-append NoTrees g = refl
+behind-append (Tree k p under beside) g = behind-append beside g
 
 -- nothing behind a forest
-joined_none : {K : Type 0} (f : Forest K) → joined f NoTrees ≡ f
-joined_none NoTrees = refl
-joined_none (Tree k p under beside) = ap (Tree k p under) (joined_none beside)
+append_none : {K : Type 0} (f : Forest K) → append f NoTrees ≡ f
+append_none NoTrees = refl
+append_none (Tree k p under beside) = ap (Tree k p under) (append_none beside)
 
 -- a forest read back from its preorder
-forms_of-preorder : (f : Forms) (ns : List FormNode) → forms_of (preorder f ++ ns) ≡ joined f (forms_of ns)
+forms_of-preorder : (f : Forms) (ns : List FormNode) → forms_of (preorder f ++ ns) ≡ append f (forms_of ns)
 forms_of-preorder NoTrees ns = refl
 forms_of-preorder (Tree k p under beside) ns =
-    let rest : forms_of ((preorder under ++ preorder beside) ++ ns) ≡ joined under (joined beside (forms_of ns)) =
-    rw append_assoc (forms_of-preorder under (preorder beside ++ ns) ∙ ap (joined under) (forms_of-preorder beside ns)) in
-    rw (rest, front-joined under, behind-joined under) refl
+    let rest : forms_of ((preorder under ++ preorder beside) ++ ns) ≡ append under (append beside (forms_of ns)) =
+    rw append_assoc (forms_of-preorder under (preorder beside ++ ns) ∙ ap (append under) (forms_of-preorder beside ns)) in
+    rw (rest, front-append under, behind-append under) refl
 
 -- with nothing behind
 pub forms_back : (f : Forms) → forms_of (preorder f) ≡ f
-forms_back f = ap forms_of (sym (append-nil (preorder f))) ∙ forms_of-preorder f [] ∙ joined_none f
+forms_back f = ap forms_of (sym (append-nil (preorder f))) ∙ forms_of-preorder f [] ∙ append_none f
 
 -- a form in its block is one form
 count-block : (kind : Expanded) (k : CoreKind) (p : ℕ) (under others : Forms) → count_of (with_block kind k p under others) ≡ suc (count_of others)

@@ -7,7 +7,7 @@ use Rattle.form_shapes.specs.declared.expanded.ExpandedNode.{ExpandedNode}
 use Rattle.form_shapes.specs.declared.scope.Opened.{Opened}
 use Rattle.form_shapes.specs.Bindings.{function_body_of}
 use Rattle.form_shapes.specs.inside.Contexts.{with_opened}
-use Rattle.form_shapes.specs.Places.{parameters_in, scope_within}
+use Rattle.form_shapes.specs.Seats.{parameters_in, scope_within}
 use Rattle.form_shapes.specs.Scopes.{Scope}
 use Rattle.lisp_forms.specs.Expansion.{forms_in, function_body_in}
 use Rattle.lisp_forms.specs.inside.Flat.{flat, flat_one, node}

@@ -9,8 +9,8 @@ use Rattle.form_shapes.specs.declared.expanded.Expanded.{Expanded}
 use Rattle.form_shapes.specs.declared.expanded.Expanded.TheVariants.{Form}
 use Rattle.form_shapes.specs.declared.expanded.ExpandedNode.{ExpandedNode}
 use Rattle.form_shapes.specs.declared.levels.Level.TheVariants.{Variable}
-use Rattle.form_shapes.specs.Bindings.{body_of, function_body_of, is_declaration, is_text, received, received_by}
-use Rattle.form_shapes.specs.Places.{scope_within}
+use Rattle.form_shapes.specs.Bindings.{after_declarations, function_body_of, is_declaration, is_text, received, received_by}
+use Rattle.form_shapes.specs.Seats.{scope_within}
 use Rattle.form_shapes.specs.Scopes.{Scope, deeper, has, inside}
 use Rattle.lisp_forms.specs.Expansion.{body_in, forms_in, function_body_in, is_none}
 use Rattle.lisp_forms.specs.inside.Flat.{flat, flat_one, node}
@@ -41,10 +41,10 @@ function-forms s (suc n) NoData = refl
 function-forms s (suc n) (Atom l p beside) = function-forms s n beside
 function-forms s (suc n) (Listed p under beside) = function-forms s n beside
 function-forms s zero (Atom l p beside) =
-    forms-either s (is_text l && not (is_none beside)) (body_in s zero beside) (body_of s.names beside) (Atom l p beside) (body-forms s zero beside)
-    ∙ ap (λ t. forms_in s (if is_text l && t then body_of s.names beside else Atom l p beside)) (sym (more_than_one beside))
+    forms-either s (is_text l && not (is_none beside)) (body_in s zero beside) (after_declarations s.names beside) (Atom l p beside) (body-forms s zero beside)
+    ∙ ap (λ t. forms_in s (if is_text l && t then after_declarations s.names beside else Atom l p beside)) (sym (more_than_one beside))
 function-forms s zero (Listed p under beside) =
-    forms-either s (is_declaration s.names under) (body_in s zero beside) (body_of s.names beside) (Listed p under beside) (body-forms s zero beside)
+    forms-either s (is_declaration s.names under) (body_in s zero beside) (after_declarations s.names beside) (Listed p under beside) (body-forms s zero beside)
 
 -- what a parameter leaves as it is, and the number that it takes
 receives-names : (s : Scope) (x : ℕ) → (received_by s x).names ≡ s.names

@@ -1,12 +1,12 @@
 -- A `let`: its variables, its values and its body.
 use Rattle.std.proofs.Common.{◌≡◌, ◌≢◌, ℕ, suc, ◌+◌, ◌<◌, ◌≤◌, ◌^◌, List, [], ◌∷◌, ◌++◌, Option, Some, None, length, refl, ap, sym, ◌∙◌, arith, append_assoc, append-nil}
-use Rattle.lisp_base.specs.Forest.{count_of, joined}
+use Rattle.lisp_base.specs.Forest.{count_of, append}
 use Rattle.lisp_program.specs.declared.form.CoreKind.TheVariants.{Let, Progn}
 use Rattle.lisp_data.specs.Data.{Data, NoData, Atom, Listed, behind, count_of as data_in}
 use Rattle.form_shapes.specs.declared.expanded.Expanded.TheVariants.{Form}
 use Rattle.form_shapes.specs.declared.expanded.ExpandedNode.{ExpandedNode}
 use Rattle.form_shapes.specs.declared.scope.Opened.{Opened}
-use Rattle.form_shapes.specs.Bindings.{and_others, body_of, bound_in, bound_in_list, opened, opened_by, or_none}
+use Rattle.form_shapes.specs.Bindings.{and_others, after_declarations, bound_in, bound_in_list, opened, opened_by, or_none}
 use Rattle.form_shapes.specs.inside.Contexts.{with_opened}
 use Rattle.form_shapes.specs.inside.One.{items_first, let_variables}
 use Rattle.form_shapes.specs.Scopes.{Scope, leaf_symbol}
@@ -15,7 +15,7 @@ use Rattle.lisp_forms.specs.inside.Flat.{flat, flat_one, node}
 use Rattle.lisp_forms.specs.Rows.{bind_kind, binds, let_of, let_star_of}
 use Rattle.lisp_forms.specs.Trees.{Expansion, Single, progn_form}
 use Rattle.lisp_forms.specs.inside.Written.{bind_nodes}
-use Rattle.lisp_forms.proofs.Parts.{body-forms, count-forms, count-joined, flat-joined, last_step, two_steps}
+use Rattle.lisp_forms.proofs.Parts.{body-forms, count-forms, count-append, flat-append, last_step, two_steps}
 
 -- a variable in front of others is at most one more
 length-and_others : (x : Option ℕ) (xs : Option (List ℕ)) → length (or_none (and_others x xs)) ≤ suc (length (or_none xs))
@@ -52,10 +52,10 @@ values-items s (Listed p under beside) = refl
 
 -- the body is the forms behind the declarations, read behind the variables
 pub body-opened : (s : Scope) (o : Opened) (xs : List ℕ) (args rest body : Data) → xs ≡ let_variables args → with_opened s o ≡ opened s xs
-    → rest ≡ behind 1 args → body ≡ body_of s.names rest → body_in (opened s (let_variables args)) 1 args ≡ forms_in (with_opened s o) body
+    → rest ≡ behind 1 args → body ≡ after_declarations s.names rest → body_in (opened s (let_variables args)) 1 args ≡ forms_in (with_opened s o) body
 body-opened s o xs args rest body is opens behind begins =
     ap (λ ys. body_in (opened s ys) 1 args) (sym is) ∙ ap (λ t. body_in t 1 args) (sym opens) ∙ body-forms (with_opened s o) 1 args
-    ∙ sym (ap (forms_in (with_opened s o)) (begins ∙ ap (body_of s.names) behind))
+    ∙ sym (ap (forms_in (with_opened s o)) (begins ∙ ap (after_declarations s.names) behind))
 
 -- the body alone, as one form
 progn_nodes : (p n : ℕ) (body fs : Expansion) (one : Single) → one ≡ progn_form p body → body ≡ fs → n ≡ count_of fs
@@ -75,21 +75,21 @@ let_star-none s p (x ∷ xs) values body h = absurd (omega (arith, h))
 -- what a `let` and a `let*` without variables write
 none_written : (s : Scope) (o : Opened) (p n : ℕ) (args rest body : Data) (xs : List ℕ) (one : Single) (old mid new : List ExpandedNode)
     → one ≡ progn_form p (body_in (opened s (let_variables args)) 1 args)
-    → xs ≡ let_variables args → with_opened s o ≡ opened s xs → rest ≡ behind 1 args → body ≡ body_of s.names rest → n ≡ data_in body
+    → xs ≡ let_variables args → with_opened s o ≡ opened s xs → rest ≡ behind 1 args → body ≡ after_declarations s.names rest → n ≡ data_in body
     → mid ≡ old ++ node (Form Progn) p n ∷ [] → new ≡ mid ++ flat (forms_in (with_opened s o) body) → new ≡ old ++ flat_one one
 none_written s o p n args rest body xs one old mid new only is opens behind begins many before h =
     last_step old mid new (node (Form Progn) p n ∷ []) (flat (forms_in (with_opened s o) body)) (flat_one one) before
     (progn_nodes p n _ (forms_in (with_opened s o) body) one only (body-opened s o xs args rest body is opens behind begins) (many ∙ sym (count-forms (with_opened s o) body))) h
 
 pub let_of_none : (s : Scope) (o : Opened) (p n : ℕ) (args rest body : Data) (xs : List ℕ) (old mid new : List ExpandedNode)
-    → length xs ≡ 0 → xs ≡ let_variables args → with_opened s o ≡ opened s xs → rest ≡ behind 1 args → body ≡ body_of s.names rest → n ≡ data_in body
+    → length xs ≡ 0 → xs ≡ let_variables args → with_opened s o ≡ opened s xs → rest ≡ behind 1 args → body ≡ after_declarations s.names rest → n ≡ data_in body
     → mid ≡ old ++ node (Form Progn) p n ∷ [] → new ≡ mid ++ flat (forms_in (with_opened s o) body)
     → new ≡ old ++ flat_one (let_of s p (let_variables args) (values_first s args) (body_in (opened s (let_variables args)) 1 args))
 let_of_none s o p n args rest body xs old mid new none is opens behind begins many before h =
     none_written s o p n args rest body xs _ old mid new (let-none s p (let_variables args) (values_first s args) _ (sym (ap length is) ∙ none)) is opens behind begins many before h
 
 pub let_star_of_none : (s : Scope) (o : Opened) (p n : ℕ) (args rest body : Data) (xs : List ℕ) (old mid new : List ExpandedNode)
-    → length xs ≡ 0 → xs ≡ let_variables args → with_opened s o ≡ opened s xs → rest ≡ behind 1 args → body ≡ body_of s.names rest → n ≡ data_in body
+    → length xs ≡ 0 → xs ≡ let_variables args → with_opened s o ≡ opened s xs → rest ≡ behind 1 args → body ≡ after_declarations s.names rest → n ≡ data_in body
     → mid ≡ old ++ node (Form Progn) p n ∷ [] → new ≡ mid ++ flat (forms_in (with_opened s o) body)
     → new ≡ old ++ flat_one (let_star_of s p (let_variables args) (turn_first s args) (body_in (opened s (let_variables args)) 1 args))
 let_star_of_none s o p n args rest body xs old mid new none is opens behind begins many before h =
@@ -106,12 +106,12 @@ flat-binds s p (x ∷ (y ∷ ys)) body =
 flat-let : (s : Scope) (p n k x : ℕ) (xs : List ℕ) (values body : Expansion) → n ≡ count_of values → k ≡ count_of body
     → ((node (Form Let) p (n + 1) ∷ []) ++ (flat values ++ bind_nodes s p k (x ∷ xs))) ++ flat body ≡ flat_one (let_of s p (x ∷ xs) values body)
 flat-let s p n k x xs values body many few =
-    let all : n + 1 ≡ count_of (joined values (binds s p (x ∷ xs) body)) = ap (λ m. m + 1) many ∙ sym (count-joined values (binds s p (x ∷ xs) body)) in
+    let all : n + 1 ≡ count_of (append values (binds s p (x ∷ xs) body)) = ap (λ m. m + 1) many ∙ sym (count-append values (binds s p (x ∷ xs) body)) in
     ap (λ ns. node (Form Let) p (n + 1) ∷ ns) (append_assoc (flat values) (bind_nodes s p k (x ∷ xs)) (flat body))
     ∙ ap (λ m. node (Form Let) p m ∷ (flat values ++ (bind_nodes s p k (x ∷ xs) ++ flat body))) all
-    ∙ ap (λ m. node (Form Let) p (count_of (joined values (binds s p (x ∷ xs) body))) ∷ (flat values ++ (bind_nodes s p m (x ∷ xs) ++ flat body))) few
-    ∙ sym (ap (λ ns. node (Form Let) p (count_of (joined values (binds s p (x ∷ xs) body))) ∷ ns)
-    (flat-joined values (binds s p (x ∷ xs) body) ∙ ap (λ ns. flat values ++ ns) (flat-binds s p (x ∷ xs) body)))
+    ∙ ap (λ m. node (Form Let) p (count_of (append values (binds s p (x ∷ xs) body))) ∷ (flat values ++ (bind_nodes s p m (x ∷ xs) ++ flat body))) few
+    ∙ sym (ap (λ ns. node (Form Let) p (count_of (append values (binds s p (x ∷ xs) body))) ∷ ns)
+    (flat-append values (binds s p (x ∷ xs) body) ∙ ap (λ ns. flat values ++ ns) (flat-binds s p (x ∷ xs) body)))
 
 -- a `let` with variables
 some_written : (s : Scope) (p n k : ℕ) (xs : List ℕ) (values body v b : Expansion) → length xs ≢ 0 → v ≡ values → b ≡ body → n ≡ count_of values → k ≡ count_of body
@@ -122,7 +122,7 @@ some_written s p n k (x ∷ xs) values body v b some same under many few =
     ∙ sym (ap (λ e. flat_one (let_of s p (x ∷ xs) e b)) same ∙ ap (λ e. flat_one (let_of s p (x ∷ xs) values e)) under)
 
 pub let_of_some : (s : Scope) (o : Opened) (p n k : ℕ) (args rest body bindings : Data) (xs : List ℕ) (old one two mid new : List ExpandedNode)
-    → length xs ≢ 0 → xs ≡ let_variables args → with_opened s o ≡ opened s xs → rest ≡ behind 1 args → body ≡ body_of s.names rest → k ≡ data_in body
+    → length xs ≢ 0 → xs ≡ let_variables args → with_opened s o ≡ opened s xs → rest ≡ behind 1 args → body ≡ after_declarations s.names rest → k ≡ data_in body
     → bindings ≡ items_first args → n ≡ data_in bindings
     → one ≡ old ++ node (Form Let) p (n + 1) ∷ [] → two ≡ one ++ flat (values_in s bindings) → mid ≡ two ++ bind_nodes s p k xs
     → new ≡ mid ++ flat (forms_in (with_opened s o) body)

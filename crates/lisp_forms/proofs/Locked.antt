@@ -10,9 +10,9 @@ use Rattle.form_shapes.specs.declared.keywords.Roles.{Roles}
 use Rattle.form_shapes.specs.declared.keywords.Roles.TheVariants.{From, Values}
 use Rattle.form_shapes.specs.declared.levels.Numbered.{Numbered}
 use Rattle.form_shapes.specs.declared.scope.Base.{Base}
-use Rattle.form_shapes.specs.Bindings.{body_of}
+use Rattle.form_shapes.specs.Bindings.{after_declarations}
 use Rattle.form_shapes.specs.inside.Contexts.{scope_at}
-use Rattle.form_shapes.specs.Keywords.{parts_of}
+use Rattle.form_shapes.specs.Keywords.{part_count}
 use Rattle.form_shapes.specs.inside.One.{items_first}
 use Rattle.form_shapes.specs.Scopes.{Scope, deeper}
 use Rattle.lisp_forms.specs.declared.locks.Lock.{Lock}
@@ -128,8 +128,8 @@ mutex_parts g p n waitp timeout mutex operands body old a b d e f new many first
 -- a mutex
 pub mutex_steps : (base : Base) (levels : List Numbered) (g p count : ℕ) (waitp timeout : Bool) (l : Lock) (args items operands left body : Data)
     (old a b d e f new : List ExpandedNode)
-    → l ≡ lock_of g → items ≡ items_first args → operands ≡ items_first args → count ≡ parts_of (Values 1) 0 (data_in operands)
-    → left ≡ behind 1 args → body ≡ body_of base.symbols.now left → a ≡ old ++ node (Form k.Let) p 3 ∷ []
+    → l ≡ lock_of g → items ≡ items_first args → operands ≡ items_first args → count ≡ part_count (Values 1) 0 (data_in operands)
+    → left ≡ behind 1 args → body ≡ after_declarations base.symbols.now left → a ≡ old ++ node (Form k.Let) p 3 ∷ []
     → b ≡ a ++ flat_one (first p (forms_in (scope_at base levels g) items)) → d ≡ b ++ region_nodes l p → e ≡ d ++ grab_nodes l waitp timeout (count + 1) p
     → f ≡ e ++ flat (by_roles (scope_at base levels l.inside) (Values 1) 0 operands)
     → new ≡ f ++ locked_nodes l p (forms_in (scope_at base levels l.inside) body)
@@ -170,7 +170,7 @@ lock_parts g p mutex body old a b d e f new first second third fourth fifth h =
 
 -- a recursive lock
 pub lock_steps : (base : Base) (levels : List Numbered) (g p : ℕ) (l : Lock) (args items left body : Data) (old a b d e f new : List ExpandedNode)
-    → l ≡ lock_of g → items ≡ items_first args → left ≡ behind 1 args → body ≡ body_of base.symbols.now left → a ≡ old ++ node (Form k.Let) p 3 ∷ []
+    → l ≡ lock_of g → items ≡ items_first args → left ≡ behind 1 args → body ≡ after_declarations base.symbols.now left → a ≡ old ++ node (Form k.Let) p 3 ∷ []
     → b ≡ a ++ flat_one (first p (forms_in (scope_at base levels g) items)) → d ≡ b ++ region_nodes l p → e ≡ d ++ either_nodes l.inside p (held_form l.mutex p)
     → f ≡ e ++ grab_nodes l false false 1 p → new ≡ f ++ locked_nodes l p (forms_in (scope_at base levels l.inside) body)
     → new ≡ old ++ flat_one (lock_tree g p (first p (within_first (scope_at base levels g) (From 0) args)) (body_in (in_lock (scope_at base levels g)) 1 args))

@@ -1,5 +1,5 @@
 -- A `loop` and a `dotimes`.
-use Rattle.std.proofs.Common.{◌≡◌, ℕ, suc, pos, ◌+◌, List, [], ◌∷◌, ◌++◌, Bool, true, false, Option, if◌then◌else◌, refl, ap, sym, ◌∙◌, add-one, append_assoc, append-nil}
+use Rattle.std.proofs.Common.{◌≡◌, ℕ, suc, pos, ◌+◌, List, [], ◌∷◌, ◌++◌, Option, refl, ap, sym, ◌∙◌, add-one, append_assoc, append-nil}
 use Rattle.lisp_base.specs.Writing.{Wrote}
 use Rattle.lisp_base.proofs.Writing.{wrote_same}
 use Rattle.lisp_base.specs.Forest.{count_of}
@@ -12,7 +12,7 @@ use Rattle.form_shapes.specs.declared.expanded.ExpandedNode.{ExpandedNode}
 use Rattle.form_shapes.specs.declared.keywords.Roles.TheVariants.{From}
 use Rattle.form_shapes.specs.declared.levels.Level.TheVariants.{Block}
 use Rattle.form_shapes.specs.declared.scope.Opened.{Opened}
-use Rattle.form_shapes.specs.Bindings.{body_of, opened_by}
+use Rattle.form_shapes.specs.Bindings.{after_declarations, opened_by}
 use Rattle.form_shapes.specs.inside.Contexts.{with_opened}
 use Rattle.form_shapes.specs.inside.One.{items_first}
 use Rattle.form_shapes.specs.Scopes.{Scope, inside}
@@ -25,7 +25,7 @@ use Rattle.lisp_forms.proofs.Parts.{body-forms, count-forms, last_step, others-f
 
 -- a `loop`
 pub loop_written : (s : Scope) (o : Opened) (p name n : ℕ) (args body : Data) (old new : Option (List ExpandedNode))
-    → with_opened s o ≡ inside s (Block name) → name ≡ 0 → body ≡ body_of s.names args → n ≡ data_in body
+    → with_opened s o ≡ inside s (Block name) → name ≡ 0 → body ≡ after_declarations s.names args → n ≡ data_in body
     → Wrote old new ((node (InBlock s.depth While) p (n + 1) ∷ flat_one (true_form p)) ++ flat (forms_in (with_opened s o) body))
     → Wrote old new (flat_one (in_block s.depth While p (in_front (true_form p) (body_in (inside s (Block 0)) 0 args))))
 loop_written s o p name n args body old new opens nil begins many done =
@@ -106,7 +106,7 @@ turns-same s p x limit done kind body b result r h i j k l =
 -- the turns of a `dotimes`
 pub turns_written : (s : Scope) (o o' : Opened) (p x limit done k : ℕ) (kind : CoreKind) (args rest body : Data) (old a b c d e f g new : List ExpandedNode)
     → with_opened s o ≡ in_dotimes s → limit ≡ s.depth + 1 → done ≡ limit + 1 → kind ≡ bind_kind s o.depth x 0 → with_opened s o' ≡ opened_by (with_opened s o) x
-    → rest ≡ behind 1 args → body ≡ body_of s.names rest → k ≡ data_in body
+    → rest ≡ behind 1 args → body ≡ after_declarations s.names rest → k ≡ data_in body
     → a ≡ old ++ node (Form (BindLocal limit 1)) p 1 ∷ [] → b ≡ a ++ node (Form (BindLocal done 0)) p 2 ∷ [] → c ≡ b ++ node (Form WhileForm) p 3 ∷ []
     → d ≡ c ++ flat_one (more_form p limit done) → e ≡ d ++ turn_head p done kind k → f ≡ e ++ flat (forms_in (with_opened s o') body) → g ≡ f ++ flat_one (step_form p done)
     → new ≡ g ++ flat_one (result_form p done kind (result_of (within_first (with_opened s o') (From 0) args)))
@@ -116,7 +116,7 @@ turns_written s o o' p x limit done k kind args rest body old a b c d e f g new 
     let fs : Expansion = forms_in u body in
     let now : u ≡ in_turn s x = inner ∙ ap (λ t. opened_by t x) opens in
     let under : fs ≡ body_in (in_turn s x) 1 args =
-    ap (forms_in u) (begins ∙ ap (body_of s.names) behind) ∙ sym (body-forms u 1 args) ∙ ap (λ t. body_in t 1 args) now in
+    ap (forms_in u) (begins ∙ ap (after_declarations s.names) behind) ∙ sym (body-forms u 1 args) ∙ ap (λ t. body_in t 1 args) now in
     let result : Option Single = result_of (within_first u (From 0) args) in
     let limit' : limit ≡ suc s.depth = one ∙ add-one s.depth in
     let done' : done ≡ suc (suc s.depth) = two ∙ add-one limit ∙ ap suc limit' in

@@ -1,11 +1,11 @@
 -- The pass over nodes leaves out just the implicit blocks that are not made.
-use Rattle.std.proofs.Common.{◌≡◌, ℕ, zero, suc, ◌+◌, ◌-◌, ◌<◌, ◌≤◌, List, [], ◌∷◌, ◌++◌, Bool, true, false, length, get_or, drop, reverse, refl, ap, sym, ◌∙◌, arith, append_assoc, append-nil, add-one, drop-cons}
+use Rattle.std.proofs.Common.{◌≡◌, ℕ, suc, ◌+◌, ◌-◌, ◌<◌, ◌≤◌, List, [], ◌∷◌, ◌++◌, Bool, true, false, length, get_or, drop, reverse, refl, ap, sym, ◌∙◌, arith, append_assoc, append-nil, add-one, drop-cons}
 use Rattle.std.proofs.Math.ListN.{drop_of_length-le}
 use Rattle.lisp_base.specs.Forest.{NoTrees, Tree, count_of}
 use Rattle.form_shapes.specs.declared.expanded.Expanded.{Expanded}
 use Rattle.form_shapes.specs.declared.expanded.Expanded.TheVariants.{Form, InBlock, Lambda, Defun, Refused, RefusedFunction}
 use Rattle.form_shapes.specs.declared.expanded.ExpandedNode.{ExpandedNode}
-use Rattle.lisp_forms.specs.Blocks.{is_made, lowered, lowered_kind, not_made_under, returns_to}
+use Rattle.lisp_forms.specs.Blocks.{is_made, lowered, lowered_kind, not_made_under}
 use Rattle.lisp_forms.specs.Trees.{Expansion}
 use Rattle.lisp_forms.specs.inside.Flat.{flat, node}
 use Rattle.lisp_forms.specs.inside.Lowering.{Frame, closed, entered, entered_in, gone_at, lowered_in, lowered_node, made_at, made_behind, outer_of}

@@ -1,5 +1,5 @@
 -- To which implicit blocks something returns, as it is found from the last node on.
-use Rattle.std.proofs.Common.{◌≡◌, ℕ, zero, suc, ◌+◌, ◌-◌, List, [], ◌∷◌, ◌++◌, Bool, true, false, ◌||◌, ◌==◌, if◌then◌else◌, length, get_or, take, drop, reverse, Option, Some, None, refl, ap, sym, ◌∙◌, arith, append_assoc, append-nil, length-append, get_or-append-add}
+use Rattle.std.proofs.Common.{◌≡◌, ℕ, suc, ◌+◌, ◌-◌, List, [], ◌∷◌, ◌++◌, Bool, true, false, ◌||◌, ◌==◌, if◌then◌else◌, length, get_or, take, reverse, Option, Some, None, refl, ap, sym, ◌∙◌, arith, append_assoc, append-nil, length-append, get_or-append-add}
 use Rattle.std.specs.List.{list_any}
 use Rattle.lisp_base.specs.Forest.{NoTrees, Tree, count_of}
 use Rattle.form_shapes.specs.declared.expanded.Expanded.{Expanded}
@@ -8,7 +8,7 @@ use Rattle.form_shapes.specs.declared.expanded.ExpandedNode.{ExpandedNode}
 use Rattle.lisp_forms.specs.Blocks.{exit_of, is_function, is_made, is_return_to, is_that, returns_to}
 use Rattle.lisp_forms.specs.Trees.{Expansion}
 use Rattle.lisp_forms.specs.inside.Flat.{flat, node}
-use Rattle.lisp_forms.specs.inside.Made.{Seen, bottom_of, has_from, made_of, made_seen, returns_seen, seen_node, seen_of, with_made, with_return}
+use Rattle.lisp_forms.specs.inside.Made.{Seen, bottom_of, made_of, made_seen, returns_seen, seen_node, seen_of, with_made, with_return}
 use Rattle.lisp_forms.proofs.Lowering.{told, told_of}
 use Rattle.std.proofs.Math.Seq.{drop-append_seam, take-append_seam}
 use Rattle.std.proofs.lemmas.List.{reverse-append}

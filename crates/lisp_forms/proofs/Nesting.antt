@@ -14,7 +14,7 @@ use Rattle.form_shapes.specs.declared.expanded.Expanded.TheVariants.{Form}
 use Rattle.form_shapes.specs.declared.expanded.ExpandedNode.{ExpandedNode}
 use Rattle.form_shapes.specs.declared.keywords.Roles.TheVariants.{From}
 use Rattle.form_shapes.specs.declared.scope.Opened.{Opened}
-use Rattle.form_shapes.specs.Bindings.{and_others, body_of, bound_in, bound_in_list, opened, opened_by, or_none}
+use Rattle.form_shapes.specs.Bindings.{and_others, after_declarations, bound_in, bound_in_list, opened, opened_by, or_none}
 use Rattle.form_shapes.specs.inside.Contexts.{with_opened}
 use Rattle.form_shapes.specs.inside.One.{bound_by, items_first, let_variables}
 use Rattle.form_shapes.specs.Scopes.{Scope, leaf_symbol}
@@ -54,15 +54,15 @@ nodes-first s p forms (LeafFirst l q) d = refl
 nodes-first s p forms (ListFirst q under) d = refl
 
 -- the last binding has the body under it, and another one a `let`
-pub parts_of_last : (d : Data) (forms : ℕ) → data_in d ≡ 0 → forms ≡ turn_parts d forms
-parts_of_last NoData forms h = refl
-parts_of_last (Atom l p beside) forms h = absurd (omega (arith, h))
-parts_of_last (Listed p under beside) forms h = absurd (omega (arith, h))
+pub part_count_last : (d : Data) (forms : ℕ) → data_in d ≡ 0 → forms ≡ turn_parts d forms
+part_count_last NoData forms h = refl
+part_count_last (Atom l p beside) forms h = absurd (omega (arith, h))
+part_count_last (Listed p under beside) forms h = absurd (omega (arith, h))
 
-pub parts_of_other : (d : Data) (forms : ℕ) → data_in d ≢ 0 → 1 ≡ turn_parts d forms
-parts_of_other NoData forms h = absurd (h refl)
-parts_of_other (Atom l p beside) forms h = refl
-parts_of_other (Listed p under beside) forms h = refl
+pub part_count_other : (d : Data) (forms : ℕ) → data_in d ≢ 0 → 1 ≡ turn_parts d forms
+part_count_other NoData forms h = absurd (h refl)
+part_count_other (Atom l p beside) forms h = refl
+part_count_other (Listed p under beside) forms h = refl
 
 count-nested : (s : Scope) (p : ℕ) (xs : List ℕ) (values body : Expansion) (d : Data) → bound_in d ≡ Some xs → count_of (nested s p xs values body) ≡ turn_parts d (count_of body)
 count-nested s p [] values body NoData h = refl
@@ -143,7 +143,7 @@ flat-star s p (x ∷ xs) values body some = sym (append-nil (flat_one (let_star_
 
 -- a `let*` with variables
 pub let_star_of_some : (s : Scope) (o : Opened) (p k : ℕ) (args rest body bindings : Data) (xs : List ℕ) (old mid new : Option (List ExpandedNode))
-    → length xs ≢ 0 → xs ≡ let_variables args → with_opened s o ≡ opened s xs → rest ≡ behind 1 args → body ≡ body_of s.names rest → k ≡ data_in body
+    → length xs ≢ 0 → xs ≡ let_variables args → with_opened s o ≡ opened s xs → rest ≡ behind 1 args → body ≡ after_declarations s.names rest → k ≡ data_in body
     → bindings ≡ items_first args → (bound_in bindings ≡ Some xs → Wrote old mid (turn_nodes s p k bindings))
     → Wrote mid new (flat (forms_in (with_opened s o) body))
     → Wrote old new (flat_one (let_star_of s p (let_variables args) (turn_first s args) (body_in (opened s (let_variables args)) 1 args)))

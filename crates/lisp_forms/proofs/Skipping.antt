@@ -3,7 +3,6 @@ use Rattle.std.proofs.Common.{◌≡◌, ℕ, suc, ◌+◌, ◌<◌, ◌≤◌, 
 use Rattle.std.proofs.Math.ListN.{drop_of_length-le}
 use Rattle.lisp_base.specs.Forest.{NoTrees, Tree, count_of}
 use Rattle.lisp_program.specs.declared.form.CoreKind.TheVariants.{Block}
-use Rattle.form_shapes.specs.declared.expanded.Expanded.{Expanded}
 use Rattle.form_shapes.specs.declared.expanded.ExpandedNode.{ExpandedNode}
 use Rattle.lisp_forms.specs.inside.Flat.{flat, node}
 use Rattle.lisp_forms.specs.Blocks.{is_function, is_return_to, blocked, lowered, returns_to}

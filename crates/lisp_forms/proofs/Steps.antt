@@ -2,7 +2,7 @@
 use Rattle.std.proofs.Common.{◌≡◌, ◌≢◌, ℕ, zero, suc, ◌+◌, ◌-◌, Option, List, [], ◌∷◌, ◌++◌, refl, ap, sym, ◌∙◌, arith, add-one, append_assoc, append-nil}
 use Rattle.lisp_base.specs.Writing.{Wrote}
 use Rattle.lisp_base.proofs.Writing.{Writes, wrote_both, wrote_same, wrote_none, writes_done, writes_next}
-use Rattle.lisp_base.specs.Forest.{NoTrees, Tree, count_of, joined}
+use Rattle.lisp_base.specs.Forest.{NoTrees, Tree, count_of, append}
 use Rattle.lisp_program.specs.declared.form.CoreKind.{CoreKind}
 use Rattle.lisp_program.specs.declared.form.CoreKind.TheVariants as k
 use Rattle.lisp_program.specs.declared.function.Primitive.{Primitive}
@@ -13,22 +13,23 @@ use Rattle.lisp_data.specs.First.{with_first}
 use Rattle.form_shapes.specs.declared.expanded.Expanded.TheVariants.{Form}
 use Rattle.form_shapes.specs.declared.expanded.ExpandedNode.{ExpandedNode}
 use Rattle.form_shapes.specs.declared.keywords.Role.{Role}
-use Rattle.form_shapes.specs.declared.keywords.Role.TheVariants.{Value, Place, Skipped}
+use Rattle.form_shapes.specs.declared.keywords.Role.TheVariants.{Value, Seat, Skipped}
 use Rattle.form_shapes.specs.declared.keywords.Roles.{Roles}
 use Rattle.form_shapes.specs.declared.scope.Target.{Target}
-use Rattle.form_shapes.specs.Bindings.{body_of}
+use Rattle.form_shapes.specs.Bindings.{after_declarations}
 use Rattle.form_shapes.specs.Keywords.{role_at}
 use Rattle.form_shapes.specs.inside.One.{let_variables}
 use Rattle.form_shapes.specs.Scopes.{Scope, deeper, set_kind, with_open}
 use Rattle.form_shapes.specs.Shapes.{shape_of}
 use Rattle.form_shapes.specs.inside.Sizes.{size_of}
-use Rattle.lisp_forms.specs.Expansion.{body_in, by_roles, conds_in, forms_in, list_form, listed, ors_in, parts_in, with_role}
+use Rattle.lisp_forms.specs.Expansion.{body_in, by_roles, conds_in, forms_in, listed, ors_in, parts_in, with_role}
 use Rattle.lisp_forms.specs.inside.Flat.{flat, flat_one, node, repeated}
-use Rattle.lisp_forms.specs.inside.Firsts.{first_form, first_placed}
+use Rattle.lisp_forms.specs.inside.Firsts.{first_form, first_seated}
 use Rattle.lisp_forms.specs.Rows
+use Rattle.lisp_forms.specs.Rows.{list_form}
 use Rattle.lisp_forms.specs.Trees.{Expansion, Single, first, form, in_front, nil_form, only, others, progn_form, both}
 use Rattle.lisp_forms.specs.inside.Written.{and_front, clause_nodes, either_nodes}
-use Rattle.lisp_forms.proofs.Parts.{body-forms, count-forms, count-joined, flat-joined, forms-first, last_step, others-forms, two_steps}
+use Rattle.lisp_forms.proofs.Parts.{body-forms, count-forms, count-append, flat-append, forms-first, last_step, others-forms, two_steps}
 
 -- the size of a first datum with others
 pub size_of-with_first : (f : First) (d : Data) → size_of (with_first f d) ≡ size_of (with_first f NoData) + size_of d
@@ -49,12 +50,12 @@ over kind p n fs old mid new many begun h =
 -- the same with NIL behind them
 pub over_nil : (kind : CoreKind) (p n : ℕ) (fs : Expansion) (old mid mid2 new : List ExpandedNode)
     → n ≡ count_of fs → mid ≡ old ++ node (Form kind) p (n + 1) ∷ [] → mid2 ≡ mid ++ flat fs → new ≡ mid2 ++ flat_one (nil_form p)
-    → new ≡ old ++ flat_one (form kind p (joined fs (only (nil_form p))))
+    → new ≡ old ++ flat_one (form kind p (append fs (only (nil_form p))))
 over_nil kind p n fs old mid mid2 new many begun forms h =
     let begin : List ExpandedNode = node (Form kind) p (n + 1) ∷ [] in
-    let count : count_of (joined fs (only (nil_form p))) ≡ n + 1 = count-joined fs (only (nil_form p)) ∙ omega (arith, many) in
-    let all : (begin ++ flat fs) ++ flat_one (nil_form p) ≡ flat_one (form kind p (joined fs (only (nil_form p)))) =
-    ap (λ ns. node (Form kind) p (n + 1) ∷ ns) (sym (flat-joined fs (only (nil_form p)))) ∙ ap (λ m. node (Form kind) p m ∷ flat (joined fs (only (nil_form p)))) (sym count) in
+    let count : count_of (append fs (only (nil_form p))) ≡ n + 1 = count-append fs (only (nil_form p)) ∙ omega (arith, many) in
+    let all : (begin ++ flat fs) ++ flat_one (nil_form p) ≡ flat_one (form kind p (append fs (only (nil_form p)))) =
+    ap (λ ns. node (Form kind) p (n + 1) ∷ ns) (sym (flat-append fs (only (nil_form p)))) ∙ ap (λ m. node (Form kind) p m ∷ flat (append fs (only (nil_form p)))) (sym count) in
     last_step old mid2 new (begin ++ flat fs) (flat_one (nil_form p)) _ (two_steps old mid mid2 begin (flat fs) begun forms) all h
 
 -- an `if` of three forms
@@ -212,27 +213,27 @@ and_end s p c n args left old now new many some less none so_far h =
 
 -- a `prog1`
 pub prog1_steps : (s : Scope) (x p n c : ℕ) (args rest body : Data) (old m1 m2 m3 m4 new : List ExpandedNode)
-    → n ≡ s.depth + 1 → rest ≡ behind 1 args → body ≡ body_of s.names rest → c ≡ data_in body → m1 ≡ old ++ node (Form k.Let) p 2 ∷ []
+    → n ≡ s.depth + 1 → rest ≡ behind 1 args → body ≡ after_declarations s.names rest → c ≡ data_in body → m1 ≡ old ++ node (Form k.Let) p 2 ∷ []
     → m2 ≡ m1 ++ flat_one (first p (forms_in s args)) → m3 ≡ m2 ++ node (Form (k.BindLocal x 0)) p (c + 1) ∷ []
     → m4 ≡ m3 ++ flat (forms_in (with_open s s.levels n) body) → new ≡ m4 ++ flat_one (Rows.local x p)
-    → new ≡ old ++ flat_one (Rows.hidden_let x p (first p (forms_in s args)) (joined (body_in (deeper s) 1 args) (only (Rows.local x p))))
+    → new ≡ old ++ flat_one (Rows.hidden_let x p (first p (forms_in s args)) (append (body_in (deeper s) 1 args) (only (Rows.local x p))))
 prog1_steps s x p n c args rest body old m1 m2 m3 m4 new deep behind_it is many e1 e2 e3 e4 h =
     let a : Single = first p (forms_in s args) in
     let fs : Expansion = forms_in (deeper s) body in
-    let same : body_in (deeper s) 1 args ≡ fs = body-forms (deeper s) 1 args ∙ ap (forms_in (deeper s)) (sym (is ∙ ap (body_of s.names) behind_it)) in
+    let same : body_in (deeper s) 1 args ≡ fs = body-forms (deeper s) 1 args ∙ ap (forms_in (deeper s)) (sym (is ∙ ap (after_declarations s.names) behind_it)) in
     let e5 : m4 ≡ m3 ++ flat fs = e4 ∙ ap (λ d. m3 ++ flat (forms_in (with_open s s.levels d) body)) (deep ∙ add-one s.depth) in
-    let count : count_of (joined fs (only (Rows.local x p))) ≡ c + 1 = count-joined fs (only (Rows.local x p)) ∙ omega (arith, count-forms (deeper s) body, many) in
+    let count : count_of (append fs (only (Rows.local x p))) ≡ c + 1 = count-append fs (only (Rows.local x p)) ∙ omega (arith, count-forms (deeper s) body, many) in
     let n1 : List ExpandedNode = node (Form k.Let) p 2 ∷ [] in
     let n2 : List ExpandedNode = node (Form (k.BindLocal x 0)) p (c + 1) ∷ [] in
     let written : m4 ≡ old ++ (((n1 ++ flat_one a) ++ n2) ++ flat fs) =
     two_steps old m3 m4 ((n1 ++ flat_one a) ++ n2) (flat fs) (two_steps old m2 m3 (n1 ++ flat_one a) n2 (two_steps old m1 m2 n1 (flat_one a) e1 e2) e3) e5 in
     let l : List ExpandedNode = flat_one (Rows.local x p) in
-    let j : Expansion = joined fs (only (Rows.local x p)) in
-    let all : (((n1 ++ flat_one a) ++ n2) ++ flat fs) ++ l ≡ flat_one (Rows.hidden_let x p a (joined fs (only (Rows.local x p)))) =
+    let j : Expansion = append fs (only (Rows.local x p)) in
+    let all : (((n1 ++ flat_one a) ++ n2) ++ flat fs) ++ l ≡ flat_one (Rows.hidden_let x p a (append fs (only (Rows.local x p)))) =
     append_assoc ((n1 ++ flat_one a) ++ n2) (flat fs) l ∙ append_assoc (n1 ++ flat_one a) n2 (flat fs ++ l)
-    ∙ ap (λ ns. node (Form k.Let) p 2 ∷ (flat_one a ++ (node (Form (k.BindLocal x 0)) p (c + 1) ∷ ns))) (sym (append-nil (flat j) ∙ flat-joined fs (only (Rows.local x p))))
+    ∙ ap (λ ns. node (Form k.Let) p 2 ∷ (flat_one a ++ (node (Form (k.BindLocal x 0)) p (c + 1) ∷ ns))) (sym (append-nil (flat j) ∙ flat-append fs (only (Rows.local x p))))
     ∙ ap (λ m. node (Form k.Let) p 2 ∷ (flat_one a ++ (node (Form (k.BindLocal x 0)) p m ∷ (flat j ++ [])))) (sym count) in
-    last_step old m4 new (((n1 ++ flat_one a) ++ n2) ++ flat fs) (flat_one (Rows.local x p)) _ written (all ∙ ap (λ b. flat_one (Rows.hidden_let x p a (joined b (only (Rows.local x p))))) (sym same)) h
+    last_step old m4 new (((n1 ++ flat_one a) ++ n2) ++ flat fs) (flat_one (Rows.local x p)) _ written (all ∙ ap (λ b. flat_one (Rows.hidden_let x p a (append b (only (Rows.local x p))))) (sym same)) h
 
 -- how much is changed, where it is written
 amount-behind : (s : Scope) (p : ℕ) (f : First) (args rest more : Data) → rest ≡ behind 1 args → rest ≡ with_first f more
@@ -303,27 +304,27 @@ listed-shape s p (Listed q items args) = refl
 
 -- one more of those with roles is written
 roles-first : (s : Scope) (roles : Roles) (i : ℕ) (f : First) (d : Data)
-    → by_roles s roles i (with_first f d) ≡ with_role (role_at roles i) (first_form s f) (first_placed s f) (by_roles s roles (suc i) d)
+    → by_roles s roles i (with_first f d) ≡ with_role (role_at roles i) (first_form s f) (first_seated s f) (by_roles s roles (suc i) d)
 roles-first s roles i (LeafFirst l p) d = refl
 roles-first s roles i (ListFirst p under) d = refl
 
 -- what one with a role writes
 abbrev pub role_nodes : Role → Single → Single → List ExpandedNode
 role_nodes Value a b = flat_one a
-role_nodes Place a b = flat_one b
+role_nodes Seat a b = flat_one b
 role_nodes Skipped a b = []
 
 flat-role : (r : Role) (a b : Single) (fs : Expansion) → flat (with_role r a b fs) ≡ role_nodes r a b ++ flat fs
 flat-role Value a b fs = refl
-flat-role Place a b fs = refl
+flat-role Seat a b fs = refl
 flat-role Skipped a b fs = refl
 
 pub role_step : (s : Scope) (roles : Roles) (i : ℕ) (r : Role) (f : First) (left others : Data) (old now new : Option (List ExpandedNode)) (all : List ExpandedNode) → left ≡ with_first f others
-    → r ≡ role_at roles i → Writes old now (flat (by_roles s roles i left)) all → Wrote now new (role_nodes r (first_form s f) (first_placed s f))
+    → r ≡ role_at roles i → Writes old now (flat (by_roles s roles i left)) all → Wrote now new (role_nodes r (first_form s f) (first_seated s f))
     → Writes old new (flat (by_roles s roles (i + 1) others)) all
 role_step s roles i r f left others old now new all e is so_far written =
     let a : Single = first_form s f in
-    let b : Single = first_placed s f in
+    let b : Single = first_seated s f in
     let here : flat (by_roles s roles i left) ≡ role_nodes r a b ++ flat (by_roles s roles (suc i) others) =
     ap (λ d. flat (by_roles s roles i d)) e ∙ ap flat (roles-first s roles i f others) ∙ flat-role (role_at roles i) a b (by_roles s roles (suc i) others)
     ∙ ap (λ q. role_nodes q a b ++ flat (by_roles s roles (suc i) others)) (sym is) in
@@ -334,9 +335,9 @@ role_step s roles i r f left others old now new all e is so_far written =
 pub nothing_written : (r : Role) (a b : Single) (now : Option (List ExpandedNode)) → r ≡ Skipped → Wrote now now (role_nodes r a b)
 nothing_written r a b now is = wrote_same now now [] (role_nodes r a b) (wrote_none now) (sym (ap (λ q. role_nodes q a b) is))
 
--- a value, and what stands in a function's place
+-- a value, and what stands in a function's seat
 pub value_written : (r : Role) (a b : Single) (now new : Option (List ExpandedNode)) → r ≡ Value → Wrote now new (flat_one a) → Wrote now new (role_nodes r a b)
 value_written r a b now new is written = wrote_same now new (flat_one a) (role_nodes r a b) written (sym (ap (λ q. role_nodes q a b) is))
 
-pub place_written : (r : Role) (a b : Single) (now new : Option (List ExpandedNode)) → r ≡ Place → Wrote now new (flat_one b) → Wrote now new (role_nodes r a b)
-place_written r a b now new is written = wrote_same now new (flat_one b) (role_nodes r a b) written (sym (ap (λ q. role_nodes q a b) is))
+pub seat_written : (r : Role) (a b : Single) (now new : Option (List ExpandedNode)) → r ≡ Seat → Wrote now new (flat_one b) → Wrote now new (role_nodes r a b)
+seat_written r a b now new is written = wrote_same now new (flat_one b) (role_nodes r a b) written (sym (ap (λ q. role_nodes q a b) is))

@@ -10,13 +10,13 @@ use Rattle.form_shapes.specs.declared.shape.Shape.{Shape}
 use Rattle.form_shapes.specs.declared.shape.Shape.TheVariants as shape
 use Rattle.form_shapes.specs.Bindings.{function_body_of}
 use Rattle.form_shapes.specs.inside.One.{let_variables}
-use Rattle.form_shapes.specs.Places.{parameters_in}
+use Rattle.form_shapes.specs.Seats.{parameters_in}
 use Rattle.form_shapes.specs.Scopes.{Scope}
-use Rattle.lisp_forms.specs.Expansion.{forms_in, function_body_in, list_form, parts_in}
+use Rattle.lisp_forms.specs.Expansion.{forms_in, function_body_in, parts_in}
 use Rattle.lisp_forms.specs.inside.Flat.{flat, flat_one, node}
 use Rattle.lisp_forms.specs.Program.{Known, known_behind, scope_of_defun, top_form, top_forms, top_list_form}
 use Rattle.lisp_forms.specs.Blocks.{blocked}
-use Rattle.lisp_forms.specs.Rows.{defun_form}
+use Rattle.lisp_forms.specs.Rows.{defun_form, list_form}
 use Rattle.lisp_forms.specs.Trees.{Expansion}
 use Rattle.lisp_forms.specs.inside.Written.{special_nodes, special_parts}
 use Rattle.lisp_forms.proofs.Parts.{count-forms}

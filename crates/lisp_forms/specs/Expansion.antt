@@ -7,57 +7,21 @@ use Rattle.lisp_base.specs.declared.refusal.Refusal.TheVariants.{BadForm, Unknow
 use Rattle.lisp_data.specs.Data.{Data, NoData, Atom, Listed}
 use Rattle.lisp_data.specs.declared.datum.Leaf.{Leaf}
 use Rattle.form_shapes.specs.declared.keywords.Role.{Role}
-use Rattle.form_shapes.specs.declared.keywords.Role.TheVariants.{Value, Place, Skipped}
+use Rattle.form_shapes.specs.declared.keywords.Role.TheVariants.{Value, Seat, Skipped}
 use Rattle.form_shapes.specs.declared.keywords.Roles.{Roles}
 use Rattle.form_shapes.specs.declared.keywords.Roles.TheVariants.{From}
 use Rattle.form_shapes.specs.declared.scope.Target.{Target}
-use Rattle.form_shapes.specs.declared.shape.Shape.{Shape}
-use Rattle.form_shapes.specs.declared.shape.Shape.TheVariants as shape
 use Rattle.form_shapes.specs.Bindings.{bound_in_list, is_declaration, is_text, opened_by, or_none, received_by, variables_of}
 use Rattle.form_shapes.specs.Clauses.{class_of, clause_variable}
 use Rattle.form_shapes.specs.Keywords.{role_at}
-use Rattle.form_shapes.specs.declared.place.Placed.{Placed}
-use Rattle.form_shapes.specs.declared.place.Placed.TheVariants.{Made, Inner, Other}
-use Rattle.form_shapes.specs.Places.{misplaced_kind, parameters_in, placed_of, scope_within}
+use Rattle.form_shapes.specs.declared.seat.Seated.{Seated}
+use Rattle.form_shapes.specs.declared.seat.Seated.TheVariants.{Made, Inner, Other}
+use Rattle.form_shapes.specs.Seats.{misplaced_kind, parameters_in, seated_of, scope_within}
 use Rattle.form_shapes.specs.Scopes.{Scope, leaf_form, leaf_symbol, target_in}
 use Rattle.form_shapes.specs.Shapes.{shape_of}
 use Rattle.lisp_forms.specs.Parts.{Parts}
 use Rattle.lisp_forms.specs.Rows
 use Rattle.lisp_forms.specs.Trees.{Expansion, Single, in_front, leaf, nil_form, refused, first}
-
--- What stands for a list of this shape at a place, with these variables of a `let`: a line for each shape, which names its row.
-abbrev pub list_form : Scope → ℕ → Shape → List ℕ → Parts → Single
-list_form s p (shape.Wrong refusal q) xs parts = refused refusal q
-list_form s p (shape.Leaf kind) xs parts = leaf kind p
-list_form s p (shape.Over kind roles) xs parts = Rows.over_form s p kind roles parts
-list_form s p (shape.OverNil kind roles) xs parts = Rows.over_nil_form s p kind roles parts
-list_form s p shape.When xs parts = Rows.when_form s p parts
-list_form s p shape.Unless xs parts = Rows.unless_form s p parts
-list_form s p shape.Cond xs parts = parts.conds
-list_form s p shape.And xs parts = Rows.and_form s p parts
-list_form s p shape.Or xs parts = parts.ors
-list_form s p shape.Prog1 xs parts = Rows.prog1_form s p parts
-list_form s p shape.Setq xs parts = Rows.setq_form s p parts
-list_form s p (shape.Change target f) xs parts = Rows.change_form s p target f parts
-list_form s p (shape.Fold f) xs parts = Rows.fold_form s p f parts
-list_form s p (shape.Twice f) xs parts = Rows.twice_form s p f parts
-list_form s p shape.Let xs parts = Rows.let_form s p xs parts
-list_form s p shape.LetStar xs parts = Rows.let_star_form s p xs parts
-list_form s p (shape.Body kind) xs parts = Rows.body_form s p kind parts
-list_form s p (shape.LocalInterrupts n) xs parts = Rows.local_interrupts_form s p n parts
-list_form s p shape.Without xs parts = Rows.without_form s p parts
-list_form s p (shape.Block b) xs parts = Rows.block_form s p b parts
-list_form s p shape.Catch xs parts = Rows.catch_form s p parts
-list_form s p shape.Loop xs parts = Rows.loop_form s p parts
-list_form s p (shape.Dotimes x) xs parts = Rows.dotimes_form s p x parts
-list_form s p shape.IgnoreErrors xs parts = Rows.ignore_form s p parts
-list_form s p shape.Handler xs parts = Rows.handler_form s p parts
-list_form s p (shape.Deadline seconds replaces) xs parts = Rows.deadline_form s p seconds replaces parts
-list_form s p (shape.Mutex waitp timeout) xs parts = Rows.mutex_form s p waitp timeout parts
-list_form s p shape.RecursiveLock xs parts = Rows.lock_form s p parts
-list_form s p shape.Timeout xs parts = Rows.timeout_form s p parts
-list_form s p shape.Terminate xs parts = Rows.terminate_form s p parts
-list_form s p (shape.Defun f) xs parts = refused BadForm p
 
 -- what the rest of a `let*` is read by, after a variable
 abbrev pub behind_variable : Scope → Option ℕ → Scope
@@ -84,16 +48,16 @@ abbrev pub leaf_single : Scope → Leaf → ℕ → Single
 leaf_single s l p = leaf (leaf_form s l) p
 
 -- what one with a role stands for, before others
-abbrev pub with_role : Role → (value placed : Single) → Expansion → Expansion
-with_role Value value placed fs = in_front value fs
-with_role Place value placed fs = in_front placed fs
-with_role Skipped value placed fs = fs
+abbrev pub with_role : Role → (value seated : Single) → Expansion → Expansion
+with_role Value value seated fs = in_front value fs
+with_role Seat value seated fs = in_front seated fs
+with_role Skipped value seated fs = fs
 
--- what stands in a function's place, from the body of a `lambda` and what stands inside a `#'`
-abbrev pub placed_form : Scope → ℕ → Placed → List ℕ → (body : Expansion) → (inner : Single) → Single
-placed_form s p Made parameters body inner = Rows.lambda_form s p parameters body
-placed_form s p Inner parameters body inner = inner
-placed_form s p (Other kind) parameters body inner = leaf kind p
+-- what stands in a function's seat, from the body of a `lambda` and what stands inside a `#'`
+abbrev pub seated_form : Scope → ℕ → Seated → List ℕ → (body : Expansion) → (inner : Single) → Single
+seated_form s p Made parameters body inner = Rows.lambda_form s p parameters body
+seated_form s p Inner parameters body inner = inner
+seated_form s p (Other kind) parameters body inner = leaf kind p
 
 abbrev mutual
   -- each of these as a form
@@ -107,7 +71,7 @@ abbrev mutual
   listed s p NoData = refused UnknownOperator p
   listed s p (Listed q under args) = refused UnknownOperator p
   listed s p (Atom l q args) =
-      list_form s p (shape_of s p (Atom l q args)) (or_none (variables_of args)) record {
+      Rows.list_form s p (shape_of s p (Atom l q args)) (or_none (variables_of args)) record {
         arguments = λ roles. by_roles s roles 0 args;
         body = λ inner n. body_in inner n args;
         forms = λ inner. forms_in inner args;
@@ -125,7 +89,7 @@ abbrev mutual
   by_roles s roles i NoData = NoTrees
   by_roles s roles i (Atom l p beside) =
       with_role (role_at roles i) (leaf_single s l p) (leaf (misplaced_kind (leaf_form s l)) p) (by_roles s roles (suc i) beside)
-  by_roles s roles i (Listed p under beside) = with_role (role_at roles i) (listed s p under) (placed s p under) (by_roles s roles (suc i) beside)
+  by_roles s roles i (Listed p under beside) = with_role (role_at roles i) (listed s p under) (seated s p under) (by_roles s roles (suc i) beside)
 
   -- those after so many, as a body
   pub body_in : Scope → ℕ → Data → Expansion
@@ -222,19 +186,19 @@ abbrev mutual
       Rows.clause_form s s.depth p (or_condition (class_of s.names (leaf_symbol l))) (clause_variable rest)
       (body_in (in_clause s (clause_variable rest)) 1 rest)
 
-  -- a list of these in a function's place
-  pub placed : Scope → ℕ → Data → Single
-  placed s p NoData = refused UnknownOperator p
-  placed s p (Listed q under args) = refused UnknownOperator p
-  placed s p (Atom l q args) =
-      placed_form s p (placed_of s p (Atom l q args)) (parameters_in args)
-      (function_body_in (scope_within s (parameters_in args)) 1 args) (placed_first s args)
+  -- a list of these in a function's seat
+  pub seated : Scope → ℕ → Data → Single
+  seated s p NoData = refused UnknownOperator p
+  seated s p (Listed q under args) = refused UnknownOperator p
+  seated s p (Atom l q args) =
+      seated_form s p (seated_of s p (Atom l q args)) (parameters_in args)
+      (function_body_in (scope_within s (parameters_in args)) 1 args) (seated_first s args)
 
-  -- the list that is the first of these, in a function's place
-  pub placed_first : Scope → Data → Single
-  placed_first s NoData = refused BadForm 0
-  placed_first s (Atom l p beside) = refused BadForm 0
-  placed_first s (Listed p under beside) = placed s p under
+  -- the list that is the first of these, in a function's seat
+  pub seated_first : Scope → Data → Single
+  seated_first s NoData = refused BadForm 0
+  seated_first s (Atom l p beside) = refused BadForm 0
+  seated_first s (Listed p under beside) = seated s p under
 
 -- the parts of a list with these arguments
 abbrev pub parts_in : Scope → ℕ → Data → Parts

@@ -26,12 +26,12 @@ use Rattle.form_shapes.specs.declared.levels.Level.TheVariants.{Block}
 use Rattle.form_shapes.specs.declared.shape.Shape.{Shape}
 use Rattle.form_shapes.specs.declared.shape.Shape.TheVariants as shape
 use Rattle.form_shapes.specs.Bindings.{is_text_first, list_fault, or_none, parameters_of, variables_of}
-use Rattle.form_shapes.specs.Places.{parameters_in, scope_within}
+use Rattle.form_shapes.specs.Seats.{parameters_in, scope_within}
 use Rattle.form_shapes.specs.Scopes.{Scope, as_variable, first_symbol, has, inside, name_of}
 use Rattle.form_shapes.specs.Shapes.{shape_of}
-use Rattle.lisp_forms.specs.Expansion.{function_body_in, leaf_single, list_form, parts_in}
+use Rattle.lisp_forms.specs.Expansion.{function_body_in, leaf_single, parts_in}
 use Rattle.lisp_forms.specs.Blocks.{is_function, lowered, turning_kind}
-use Rattle.lisp_forms.specs.Rows.{defun_form}
+use Rattle.lisp_forms.specs.Rows.{defun_form, list_form}
 use Rattle.lisp_forms.specs.Trees.{Expansion, Single, in_front, refused}
 
 -- what stands at the front of a list, whatever the program defines

@@ -1,11 +1,11 @@
 -- The table of forms: for each form that is written, what stands for it. A row is given what the form is read by, its place, and
 -- its parts. `g` is the number of the next hidden variable; what is read inside it is read by a deeper scope.
 use Rattle.std.specs.Prelude.{ℕ, ℤ, suc, pos, List, [], ◌∷◌, Bool, true, false, Option, Some, None, if◌then◌else◌, length}
-use Rattle.lisp_base.specs.Forest.{NoTrees, Tree, joined}
+use Rattle.lisp_base.specs.Forest.{NoTrees, Tree, append}
 use Rattle.lisp_base.specs.declared.condition.Class.{Class}
 use Rattle.lisp_base.specs.declared.condition.Class.TheVariants.{Error, Timeout}
 use Rattle.lisp_base.specs.declared.id.FunctionName.TheVariants.{AbortThread}
-use Rattle.lisp_base.specs.declared.refusal.Refusal.TheVariants.{UnknownVariable}
+use Rattle.lisp_base.specs.declared.refusal.Refusal.TheVariants.{BadForm, UnknownVariable}
 use Rattle.lisp_base.specs.declared.value.Node.TheVariants.{Int as AnInt, Symbol as ASymbol}
 use Rattle.lisp_program.specs.declared.form.CoreKind.{CoreKind}
 use Rattle.lisp_program.specs.declared.form.CoreKind.TheVariants as k
@@ -19,11 +19,13 @@ use Rattle.form_shapes.specs.declared.keywords.Roles.{Roles}
 use Rattle.form_shapes.specs.declared.keywords.Roles.TheVariants.{From, Values}
 use Rattle.form_shapes.specs.declared.levels.Level.TheVariants.{Block, Region}
 use Rattle.form_shapes.specs.declared.scope.Target.{Target}
+use Rattle.form_shapes.specs.declared.shape.Shape.{Shape}
+use Rattle.form_shapes.specs.declared.shape.Shape.TheVariants as shape
 use Rattle.form_shapes.specs.Bindings.{opened, opened_by}
 use Rattle.form_shapes.specs.Scopes.{Scope, constant, deeper, has, inside, set_kind}
 use Rattle.lisp_forms.specs.Blocks.{blocked}
 use Rattle.lisp_forms.specs.Parts.{Parts}
-use Rattle.lisp_forms.specs.Trees.{Expansion, Single, in_front, only, both, three, leaf, form, nil_form, progn_form, first, others, second}
+use Rattle.lisp_forms.specs.Trees.{Expansion, Single, in_front, only, both, three, leaf, form, nil_form, progn_form, refused, first, others, second}
 
 -- a variable with this number
 abbrev pub local : ℕ → ℕ → Single
@@ -64,7 +66,7 @@ binds s p (x ∷ xs) body = only (bind_form s p s.depth x (length xs) (binds (op
 -- a `let` of these variables; without variables it is its body
 abbrev pub let_of : Scope → ℕ → List ℕ → (values body : Expansion) → Single
 let_of s p [] values body = progn_form p body
-let_of s p (x ∷ xs) values body = form k.Let p (joined values (binds s p (x ∷ xs) body))
+let_of s p (x ∷ xs) values body = form k.Let p (append values (binds s p (x ∷ xs) body))
 
 -- `(let ((x a) (y b)) body)`: the values, and then one binding in another
 abbrev pub let_form : Scope → ℕ → List ℕ → Parts → Single
@@ -128,7 +130,7 @@ clause_of_cond s p (Tree kind q under (Tree kind' q' under' beside)) rest =
 abbrev pub prog1_form : Scope → ℕ → Parts → Single
 prog1_form s p parts =
     let g : ℕ = s.depth in
-    hidden_let g p (first p (parts.forms s)) (joined (parts.body (deeper s) 1) (only (local g p)))
+    hidden_let g p (first p (parts.forms s)) (append (parts.body (deeper s) 1) (only (local g p)))
 
 -- Variables and functions
 
@@ -273,7 +275,7 @@ catch_form s p parts = form k.Catch p (in_front (first p (parts.forms s)) (parts
 
 -- `(with-deadline (:seconds a :override b) body)`
 abbrev pub deadline_form : Scope → ℕ → (seconds replaces : Bool) → Parts → Single
-deadline_form s p seconds replaces parts = form (k.WithDeadline seconds replaces) p (joined (parts.within s (Values 0)) (parts.body s 1))
+deadline_form s p seconds replaces parts = form (k.WithDeadline seconds replaces) p (append (parts.within s (Values 0)) (parts.body s 1))
 
 -- `(handler-case a clauses)`
 abbrev pub handler_form : Scope → ℕ → Parts → Single
@@ -392,4 +394,40 @@ over_form s p kind roles parts = form kind p (parts.arguments roles)
 
 -- and one that has NIL after them, where it is not written: `(if a b)` and `(return-from b)`
 abbrev pub over_nil_form : Scope → ℕ → CoreKind → Roles → Parts → Single
-over_nil_form s p kind roles parts = form kind p (joined (parts.arguments roles) (only (nil_form p)))
+over_nil_form s p kind roles parts = form kind p (append (parts.arguments roles) (only (nil_form p)))
+
+-- Every shape
+
+-- What stands for a list of this shape at a place, with these variables of a `let`: a line for each shape, which names its row.
+abbrev pub list_form : Scope → ℕ → Shape → List ℕ → Parts → Single
+list_form s p (shape.Wrong refusal q) xs parts = refused refusal q
+list_form s p (shape.Leaf kind) xs parts = leaf kind p
+list_form s p (shape.Over kind roles) xs parts = over_form s p kind roles parts
+list_form s p (shape.OverNil kind roles) xs parts = over_nil_form s p kind roles parts
+list_form s p shape.When xs parts = when_form s p parts
+list_form s p shape.Unless xs parts = unless_form s p parts
+list_form s p shape.Cond xs parts = parts.conds
+list_form s p shape.And xs parts = and_form s p parts
+list_form s p shape.Or xs parts = parts.ors
+list_form s p shape.Prog1 xs parts = prog1_form s p parts
+list_form s p shape.Setq xs parts = setq_form s p parts
+list_form s p (shape.Change target f) xs parts = change_form s p target f parts
+list_form s p (shape.Fold f) xs parts = fold_form s p f parts
+list_form s p (shape.Twice f) xs parts = twice_form s p f parts
+list_form s p shape.Let xs parts = let_form s p xs parts
+list_form s p shape.LetStar xs parts = let_star_form s p xs parts
+list_form s p (shape.Body kind) xs parts = body_form s p kind parts
+list_form s p (shape.LocalInterrupts n) xs parts = local_interrupts_form s p n parts
+list_form s p shape.Without xs parts = without_form s p parts
+list_form s p (shape.Block b) xs parts = block_form s p b parts
+list_form s p shape.Catch xs parts = catch_form s p parts
+list_form s p shape.Loop xs parts = loop_form s p parts
+list_form s p (shape.Dotimes x) xs parts = dotimes_form s p x parts
+list_form s p shape.IgnoreErrors xs parts = ignore_form s p parts
+list_form s p shape.Handler xs parts = handler_form s p parts
+list_form s p (shape.Deadline seconds replaces) xs parts = deadline_form s p seconds replaces parts
+list_form s p (shape.Mutex waitp timeout) xs parts = mutex_form s p waitp timeout parts
+list_form s p shape.RecursiveLock xs parts = lock_form s p parts
+list_form s p shape.Timeout xs parts = timeout_form s p parts
+list_form s p shape.Terminate xs parts = terminate_form s p parts
+list_form s p (shape.Defun f) xs parts = refused BadForm p

@@ -1,5 +1,5 @@
 ghost use Rattle.std.specs.Prelude.{◌≡◌, ℕ, ◌<◌, ◌^◌, Some};
-ghost use Rattle.lisp_base.specs.Forest.{count_of, joined};
+ghost use Rattle.lisp_base.specs.Forest.{count_of, append};
 ghost use Rattle.lisp_base.specs.Writing.{Wrote};
 ghost use Rattle.form_shapes.specs.inside.Contexts.{scope_at};
 ghost use Rattle.form_shapes.specs.Scopes.{Scope, inside as inside_of};
@@ -12,10 +12,10 @@ ghost use Rattle.lisp_forms.specs.inside.Written.{one_list};
 
 use crate::expand::{push_all, push_by_roles, push_head};
 use crate::nodes::{push_form, push_local, push_nil};
-use form_shapes::bindings::{body_of, items_first};
+use form_shapes::bindings::{after_declarations, items_first};
 use form_shapes::clause::{class_of, clause_variable};
 use form_shapes::expanded::ExpandedNode;
-use form_shapes::keywords::{Roles, parts_of};
+use form_shapes::keywords::{Roles, part_count};
 use form_shapes::levels::{Level, Levels};
 use form_shapes::scope::{Base, has};
 use form_shapes::single::{is_list, rest, symbol_by};
@@ -41,7 +41,7 @@ pub fn push_body_form(
 )
     ensures { Wrote nodes.old nodes.new (flat_one (form kind place (body_in (scope_at base.now levels.now depth) 0 arguments.entry))) }
 {
-    let body = body_of(base.symbols, arguments);
+    let body = after_declarations(base.symbols, arguments);
     push_form(kind, place, body.count(), nodes);
     push_all(alloc, base, levels, depth, body, nodes)
 }
@@ -145,7 +145,7 @@ pub fn push_catch(
 )
     ensures { Wrote nodes.old nodes.new (flat_one (form CoreKind.Catch place (in_front (first_of place (forms_in (scope_at base.now levels.now depth) arguments.entry)) (body_in (scope_at base.now levels.now depth) 1 arguments.entry)))) }
 {
-    let body = body_of(base.symbols, rest(&arguments, 1));
+    let body = after_declarations(base.symbols, rest(&arguments, 1));
     push_form(CoreKind::Catch, place, body.count() + 1, nodes);
     push_head(alloc, base, levels, depth, place, arguments, nodes);
     push_all(alloc, base, levels, depth, body, nodes)
@@ -164,11 +164,11 @@ pub fn push_deadline(
     arguments: Items,
     nodes: &mut Writer<ExpandedNode>,
 )
-    ensures { Wrote nodes.old nodes.new (flat_one (form (CoreKind.WithDeadline seconds replaces) place (joined (within_first (scope_at base.now levels.now depth) (Roles.Values 0) arguments.entry) (body_in (scope_at base.now levels.now depth) 1 arguments.entry)))) }
+    ensures { Wrote nodes.old nodes.new (flat_one (form (CoreKind.WithDeadline seconds replaces) place (append (within_first (scope_at base.now levels.now depth) (Roles.Values 0) arguments.entry) (body_in (scope_at base.now levels.now depth) 1 arguments.entry)))) }
 {
     let items = items_first(&arguments);
-    let body = body_of(base.symbols, rest(&arguments, 1));
-    let parts = parts_of(Roles::Values(0), items.count()) + body.count();
+    let body = after_declarations(base.symbols, rest(&arguments, 1));
+    let parts = part_count(Roles::Values(0), items.count()) + body.count();
     let kind = CoreKind::WithDeadline { seconds, replaces };
     push_form(kind, place, parts, nodes);
     push_by_roles(alloc, base, levels, depth, Roles::Values(0), items, nodes);
@@ -262,7 +262,7 @@ fn push_clause(
         return push_nil(place, nodes);
     }
     let class = class_of(base.symbols, symbol_by(&first)).unwrap_or(Class::Condition);
-    let body = body_of(base.symbols, rest(&others, 1));
+    let body = after_declarations(base.symbols, rest(&others, 1));
     match clause_variable(&others) {
         None => {
             push_form(CoreKind::Clause(class), place, body.count(), nodes);

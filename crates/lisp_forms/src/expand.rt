@@ -1,11 +1,11 @@
 ghost use Rattle.lisp_base.specs.Writing.{Wrote};
 ghost use Rattle.form_shapes.specs.inside.Contexts.{scope_at};
 ghost use Rattle.form_shapes.specs.inside.One.{let_variables};
-ghost use Rattle.form_shapes.specs.Places.{parameters_in as parameters_of, scope_within};
-ghost use Rattle.lisp_forms.specs.Expansion.{by_roles, forms_in, function_body_in, list_form, listed, parts_in, placed as placed_in, placed_first};
+ghost use Rattle.form_shapes.specs.Seats.{parameters_in as parameters_of, scope_within};
+ghost use Rattle.lisp_forms.specs.Expansion.{by_roles, forms_in, function_body_in, listed, parts_in, seated as seated_in, seated_first};
 ghost use Rattle.lisp_forms.specs.inside.Flat.{flat, flat_one};
-ghost use Rattle.lisp_forms.specs.inside.Firsts.{first_form, first_placed};
-ghost use Rattle.lisp_forms.specs.Rows.{lambda_form};
+ghost use Rattle.lisp_forms.specs.inside.Firsts.{first_form, first_seated};
+ghost use Rattle.lisp_forms.specs.Rows.{lambda_form, list_form};
 ghost use Rattle.lisp_forms.specs.Trees.{first as first_of, form};
 
 use crate::nodes::{push_form, push_nil, push_node};
@@ -13,13 +13,13 @@ use crate::special::{push_specials, special_parts};
 use crate::{bodies, lets, locks, loops, rows};
 use form_shapes::bindings::{function_body_of, parameters_in};
 use form_shapes::expanded::{Expanded, ExpandedNode};
-use form_shapes::keywords::{Role, Roles, parts_of, role_at};
+use form_shapes::keywords::{Role, Roles, part_count, role_at};
 use form_shapes::levels::Levels;
-use form_shapes::place::{Placed, misplaced_kind};
 use form_shapes::scope::Base;
+use form_shapes::seat::{Seated, misplaced_kind};
 use form_shapes::shape::Shape;
 use form_shapes::single::rest;
-use form_shapes::within::{leaf_within, placed_within, received_within, shape_within};
+use form_shapes::within::{leaf_within, received_within, seated_within, shape_within};
 use lisp_base::id::Place;
 use lisp_base::refusal::Refusal;
 use lisp_base::writer::Writer;
@@ -222,7 +222,7 @@ fn push_over(
 )
     ensures { Wrote nodes.old nodes.new (flat_one (form kind place (by_roles (scope_at base.now levels.now depth) roles 0 arguments.entry))) }
 {
-    let parts = parts_of(roles, arguments.count());
+    let parts = part_count(roles, arguments.count());
     push_form(kind, place, parts, nodes);
     push_by_roles(alloc, base, levels, depth, roles, arguments, nodes)
 }
@@ -245,7 +245,7 @@ pub fn push_by_roles(
     while let Some((first, others)) = left.split_first() {
         match role_at(roles, index) {
             Role::Value => push_first(alloc, base, levels, depth, first, nodes),
-            Role::Place => push_placed(alloc, base, levels, depth, first, nodes),
+            Role::Seat => push_seated(alloc, base, levels, depth, first, nodes),
             Role::Skipped => (),
         }
         index += 1;
@@ -253,9 +253,9 @@ pub fn push_by_roles(
     }
 }
 
-/// Writes one that stands in a function's place.
+/// Writes one that stands in a function's seat.
 #[cycle(forms)]
-fn push_placed(
+fn push_seated(
     alloc: Global,
     base: &Base,
     levels: &Levels,
@@ -263,7 +263,7 @@ fn push_placed(
     first: First,
     nodes: &mut Writer<ExpandedNode>,
 )
-    ensures { Wrote nodes.old nodes.new (flat_one (first_placed (scope_at base.now levels.now depth) first.entry)) }
+    ensures { Wrote nodes.old nodes.new (flat_one (first_seated (scope_at base.now levels.now depth) first.entry)) }
 {
     match first {
         First::Leaf(leaf, place) => {
@@ -274,15 +274,15 @@ fn push_placed(
                 nodes,
             )
         }
-        First::List(place, under) => push_placed_list(
+        First::List(place, under) => push_seated_list(
             alloc, base, levels, depth, place, under, nodes,
         ),
     }
 }
 
-/// Writes a list of these that stands in a function's place.
+/// Writes a list of these that stands in a function's seat.
 #[cycle(forms)]
-fn push_placed_list(
+fn push_seated_list(
     alloc: Global,
     base: &Base,
     levels: &Levels,
@@ -291,18 +291,18 @@ fn push_placed_list(
     under: Items,
     nodes: &mut Writer<ExpandedNode>,
 )
-    ensures { Wrote nodes.old nodes.new (flat_one (placed_in (scope_at base.now levels.now depth) place under.entry)) }
+    ensures { Wrote nodes.old nodes.new (flat_one (seated_in (scope_at base.now levels.now depth) place under.entry)) }
 {
     let arguments = rest(&under, 1);
-    match placed_within(alloc, base, levels, depth, place, &under) {
-        Ok(Placed::Made) => push_lambda(alloc, base, levels, depth, place, arguments, nodes),
-        Ok(Placed::Inner) => push_inner(alloc, base, levels, depth, arguments, nodes),
-        Ok(Placed::Other(kind)) => push_node(kind, place, 0, nodes),
+    match seated_within(alloc, base, levels, depth, place, &under) {
+        Ok(Seated::Made) => push_lambda(alloc, base, levels, depth, place, arguments, nodes),
+        Ok(Seated::Inner) => push_inner(alloc, base, levels, depth, arguments, nodes),
+        Ok(Seated::Other(kind)) => push_node(kind, place, 0, nodes),
         Err(_) => nodes.fill(),
     }
 }
 
-/// Writes the list that is the first of these, which stands in a function's place.
+/// Writes the list that is the first of these, which stands in a function's seat.
 #[cycle(forms)]
 fn push_inner(
     alloc: Global,
@@ -312,14 +312,14 @@ fn push_inner(
     arguments: Items,
     nodes: &mut Writer<ExpandedNode>,
 )
-    ensures { Wrote nodes.old nodes.new (flat_one (placed_first (scope_at base.now levels.now depth) arguments.entry)) }
+    ensures { Wrote nodes.old nodes.new (flat_one (seated_first (scope_at base.now levels.now depth) arguments.entry)) }
 {
     let Some((first, _)) = arguments.split_first() else {
         return push_node(Expanded::Refused(Refusal::BadForm), Place(0), 0, nodes);
     };
     match first {
         First::Leaf(_, _) => push_node(Expanded::Refused(Refusal::BadForm), Place(0), 0, nodes),
-        First::List(place, under) => push_placed_list(
+        First::List(place, under) => push_seated_list(
             alloc, base, levels, depth, place, under, nodes,
         ),
     }

@@ -12,7 +12,7 @@ ghost use Rattle.lisp_forms.specs.Rows.{bind_kind as bind_kind_of, let_form, let
 
 use crate::expand::{push_all, push_head};
 use crate::nodes::{push_form, push_nil};
-use form_shapes::bindings::{body_of, items_first, open_variable, variables_in};
+use form_shapes::bindings::{after_declarations, items_first, open_variable, variables_in};
 use form_shapes::expanded::ExpandedNode;
 use form_shapes::levels::{Levels, next};
 use form_shapes::scope::{Base, has};
@@ -44,7 +44,7 @@ pub fn push_let(
     let Ok(open) = opened_within(alloc, base, levels, depth, variables.as_slice()) else {
         return nodes.fill();
     };
-    let body = body_of(base.symbols, rest(&arguments, 1));
+    let body = after_declarations(base.symbols, rest(&arguments, 1));
     if variables.is_empty() {
         push_form(CoreKind::Progn, place, body.count(), nodes);
         return push_all(alloc, base, &open.levels, open.depth, body, nodes);
@@ -181,7 +181,7 @@ pub fn push_let_star(
     let Ok(open) = opened_within(alloc, base, levels, depth, variables.as_slice()) else {
         return nodes.fill();
     };
-    let body = body_of(base.symbols, rest(&arguments, 1));
+    let body = after_declarations(base.symbols, rest(&arguments, 1));
     if variables.is_empty() {
         push_form(CoreKind::Progn, place, body.count(), nodes);
         return push_all(alloc, base, &open.levels, open.depth, body, nodes);
@@ -236,7 +236,7 @@ fn push_turns(
 }
 
 /// How many forms are under a binding of a `let*` with these others after it, where its body has so many.
-#[tactic(auto, using(crate::proofs::Nesting::parts_of_last, crate::proofs::Nesting::parts_of_other))]
+#[tactic(auto, using(crate::proofs::Nesting::part_count_last, crate::proofs::Nesting::part_count_other))]
 fn turn_parts(others: &Items, body: u32) -> u32
     ensures { result ≡ turn_parts others.now body }
 {

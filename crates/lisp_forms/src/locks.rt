@@ -9,9 +9,9 @@ ghost use Rattle.lisp_forms.specs.inside.Written.{either_nodes, grab_nodes, lock
 use crate::expand::{push_all, push_by_roles, push_head};
 use crate::nodes::{push_form, push_local, push_nil, push_node};
 use crate::rows::push_progn;
-use form_shapes::bindings::{body_of, items_first};
+use form_shapes::bindings::{after_declarations, items_first};
 use form_shapes::expanded::{Expanded, ExpandedNode};
-use form_shapes::keywords::{Roles, parts_of};
+use form_shapes::keywords::{Roles, part_count};
 use form_shapes::levels::{Levels, next};
 use form_shapes::scope::Base;
 use form_shapes::single::rest;
@@ -140,7 +140,7 @@ pub fn push_mutex(
     };
     let items = items_first(&arguments);
     let operands = items_first(&arguments);
-    let count = parts_of(Roles::Values(1), operands.count()) + 1;
+    let count = part_count(Roles::Values(1), operands.count()) + 1;
     push_form(CoreKind::Let, place, 3, nodes);
     push_head(alloc, base, levels, depth, place, items, nodes);
     push_region(&lock, place, nodes);
@@ -154,7 +154,7 @@ pub fn push_mutex(
         operands,
         nodes,
     );
-    let body = body_of(base.symbols, rest(&arguments, 1));
+    let body = after_declarations(base.symbols, rest(&arguments, 1));
     push_locked_body(alloc, base, levels, lock.inside, &lock, place, body, nodes)
 }
 
@@ -187,7 +187,7 @@ pub fn push_lock(
     push_region(&lock, place, nodes);
     push_held(&lock, place, nodes);
     push_grab(&lock, false, false, 1, place, nodes);
-    let body = body_of(base.symbols, rest(&arguments, 1));
+    let body = after_declarations(base.symbols, rest(&arguments, 1));
     push_locked_body(alloc, base, levels, lock.inside, &lock, place, body, nodes)
 }
 

@@ -10,7 +10,7 @@ ghost use Rattle.lisp_forms.specs.inside.Written.{turn_head};
 use crate::expand::{push_all, push_head};
 use crate::lets::bind_kind;
 use crate::nodes::{push_form, push_local, push_nil, push_node, push_number, push_true};
-use form_shapes::bindings::{body_of, items_first, open_variable};
+use form_shapes::bindings::{after_declarations, items_first, open_variable};
 use form_shapes::expanded::{Expanded, ExpandedNode, Turning};
 use form_shapes::keywords::Roles;
 use form_shapes::levels::{Level, Levels, next};
@@ -41,7 +41,7 @@ pub fn push_loop(
     let Ok(open) = level_within(alloc, base, levels, depth, Level::Block(SymbolId::nil())) else {
         return nodes.fill();
     };
-    let body = body_of(base.symbols, arguments);
+    let body = after_declarations(base.symbols, arguments);
     let kind = Expanded::InBlock(depth, Turning::While);
     push_node(kind, place, body.count() + 1, nodes);
     push_true(place, nodes);
@@ -120,7 +120,7 @@ fn push_turns(
     if open_variable(base.specials, variable, &mut open).is_err() {
         return nodes.fill();
     }
-    let body = body_of(base.symbols, rest(&arguments, 1));
+    let body = after_declarations(base.symbols, rest(&arguments, 1));
     push_form(CoreKind::BindLocal(limit, 1), place, 1, nodes);
     push_form(CoreKind::BindLocal(done, 0), place, 2, nodes);
     push_form(CoreKind::While, place, 3, nodes);

@@ -15,9 +15,9 @@ use crate::expand::{push_all, push_by_roles, push_first, push_head};
 use crate::nodes::{
     push_form, push_forms, push_local, push_nil, push_node, push_number, push_true, unit_of,
 };
-use form_shapes::bindings::body_of;
+use form_shapes::bindings::after_declarations;
 use form_shapes::expanded::{Expanded, ExpandedNode};
-use form_shapes::keywords::{Roles, parts_of};
+use form_shapes::keywords::{Roles, part_count};
 use form_shapes::levels::{Levels, next};
 use form_shapes::scope::{Base, Target, set_kind};
 use form_shapes::single::{is_list, place_by, rest};
@@ -47,7 +47,7 @@ pub fn push_over_nil(
 )
     ensures { Wrote nodes.old nodes.new (flat_one (Rows.over_nil_form (scope_at base.now levels.now depth) place kind roles (parts_in (scope_at base.now levels.now depth) place arguments.entry))) }
 {
-    let parts = parts_of(roles, arguments.count()) + 1;
+    let parts = part_count(roles, arguments.count()) + 1;
     push_form(kind, place, parts, nodes);
     push_by_roles(alloc, base, levels, depth, roles, arguments, nodes);
     push_nil(place, nodes)
@@ -265,7 +265,7 @@ pub fn push_prog1(
     let Ok(inner) = next(depth) else {
         return nodes.fill();
     };
-    let body = body_of(base.symbols, rest(&arguments, 1));
+    let body = after_declarations(base.symbols, rest(&arguments, 1));
     push_form(CoreKind::Let, place, 2, nodes);
     push_head(alloc, base, levels, depth, place, arguments, nodes);
     push_form(

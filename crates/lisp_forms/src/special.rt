@@ -2,7 +2,7 @@ ghost use Rattle.std.specs.Prelude.{◌≡◌};
 ghost use Rattle.std.specs.List.{list_any};
 ghost use Rattle.lisp_base.specs.Writing.{Wrote};
 ghost use Rattle.form_shapes.specs.Scopes.{has};
-ghost use Rattle.lisp_forms.specs.inside.Written.{special_node, special_nodes, special_parts as parts_of_special};
+ghost use Rattle.lisp_forms.specs.inside.Written.{special_node, special_nodes, special_parts as part_count_special};
 
 use crate::nodes::{push_form, push_local};
 use form_shapes::expanded::ExpandedNode;
@@ -14,7 +14,7 @@ use lisp_program::form::CoreKind;
 
 /// How many forms a body of so many is, where these parameters are bound round it.
 pub fn special_parts(specials: &[SymbolId], parameters: &[SymbolId], body: u32) -> u32
-    ensures { result ≡ parts_of_special specials.now body parameters.now }
+    ensures { result ≡ part_count_special specials.now body parameters.now }
 {
     if any_special(specials, parameters) {
         1

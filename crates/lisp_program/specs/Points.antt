@@ -142,7 +142,7 @@ service_of UnscheduleTimer p = one UnscheduleTimer p Main
 
 -- the points of a form of this kind at this place, from the points of the forms under it
 abbrev pub table : CoreKind → ℕ → List Points → Points
--- a constant, `*current-thread*`, what stands in a function's place, a lexical variable: 1 point
+-- a constant, `*current-thread*`, what stands in a function's seat, a lexical variable: 1 point
 table (Constant v) p fs = Do (Push v) p Done
 table CurrentThread p fs = Do PushThread p Done
 table (Function name) p fs = Do (PushFunction name) p Done

@@ -8,7 +8,7 @@ use lisp_base::value::Value;
 pub enum Act {
     /// Gives a constant.
     Push(Value),
-    /// Gives a function to the form in whose function's place it stands.
+    /// Gives a function to the form in whose function's seat it stands.
     PushFunction(FunctionName),
     /// Gives the present thread.
     PushThread,

@@ -13,7 +13,7 @@ pub enum CoreKind {
     Constant(Value),
     /// The present thread.
     CurrentThread,
-    /// A function in a function's place: a function of the program, one made by `lambda`, or that of `terminate-thread`.
+    /// A function in a function's seat: a function of the program, one made by `lambda`, or that of `terminate-thread`.
     Function(FunctionName),
     /// A lexical variable.
     Local(u32),

@@ -5,9 +5,7 @@ use Rattle.lisp_data.specs.declared.items.First.{First}
 use Rattle.lisp_data.specs.declared.items.First.TheVariants.{Leaf as LeafFirst, List as ListFirst}
 use Rattle.form_shapes.specs.Bindings.{bound_in_list, is_declaration, or_none, variables_of}
 use Rattle.form_shapes.specs.Clauses.{is_clause, is_variable_list}
-use Rattle.form_shapes.specs.Scopes.{constant, leaf_symbol, node_of}
-use Rattle.form_shapes.specs.Shapes.{quoted_list, placed as with_place}
-use Rattle.form_shapes.specs.declared.expanded.Expanded.{Expanded}
+use Rattle.form_shapes.specs.Scopes.{leaf_symbol}
 
 -- the variable that the first of several bindings binds
 abbrev pub bound_by : First → Option ℕ
@@ -23,16 +21,6 @@ symbol_by (ListFirst p under) = None
 abbrev pub is_declared : List (List ℕ) → First → Bool
 is_declared names (LeafFirst leaf p) = false
 is_declared names (ListFirst p under) = is_declaration names under
-
--- a datum that is quoted
-abbrev pub quoted_first : First → Expanded
-quoted_first (LeafFirst l p) = constant (node_of l)
-quoted_first (ListFirst p under) = quoted_list (count_of under)
-
--- the symbol that a datum is, and its place
-abbrev pub placed_symbol : First → Option (ℕ × ℕ)
-placed_symbol (LeafFirst l p) = with_place (leaf_symbol l) p
-placed_symbol (ListFirst p under) = None
 
 -- a datum is a list of no variable, or of one
 abbrev pub holds_variable : List (List ℕ) → First → Bool

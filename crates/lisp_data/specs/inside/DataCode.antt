@@ -9,28 +9,28 @@ use Rattle.lisp_data.specs.declared.datum.Leaf.TheVariants.{Int, Symbol, Text, T
 use Rattle.lisp_data.specs.Data.{Data, NoData, Atom, Listed, begun, behind, count_of, data_of, front, leaf_kind, node_at, written}
 
 -- the data of both, one after the other
-abbrev pub joined : Data → Data → Data
-joined NoData e = e
-joined (Atom leaf p beside) e = Atom leaf p (joined beside e)
-joined (Listed p under beside) e = Listed p under (joined beside e)
+abbrev pub append : Data → Data → Data
+append NoData e = e
+append (Atom leaf p beside) e = Atom leaf p (append beside e)
+append (Listed p under beside) e = Listed p under (append beside e)
 
 -- with no data after them
-pub joined_none : (d : Data) → joined d NoData ≡ d
-joined_none NoData = refl
-joined_none (Atom leaf p beside) = ap (Atom leaf p) (joined_none beside)
-joined_none (Listed p under beside) = ap (Listed p under) (joined_none beside)
+pub append_none : (d : Data) → append d NoData ≡ d
+append_none NoData = refl
+append_none (Atom leaf p beside) = ap (Atom leaf p) (append_none beside)
+append_none (Listed p under beside) = ap (Listed p under) (append_none beside)
 
 -- the first of both are those of the first
-pub front_joined : (d e : Data) → front (count_of d) (joined d e) ≡ d
-front_joined NoData e = refl
-front_joined (Atom leaf p beside) e = ap (Atom leaf p) (front_joined beside e)
-front_joined (Listed p under beside) e = ap (Listed p under) (front_joined beside e)
+pub front_append : (d e : Data) → front (count_of d) (append d e) ≡ d
+front_append NoData e = refl
+front_append (Atom leaf p beside) e = ap (Atom leaf p) (front_append beside e)
+front_append (Listed p under beside) e = ap (Listed p under) (front_append beside e)
 
 -- the others are those of the second
-pub behind_joined : (d e : Data) → behind (count_of d) (joined d e) ≡ e
-behind_joined NoData e = refl
-behind_joined (Atom leaf p beside) e = behind_joined beside e
-behind_joined (Listed p under beside) e = behind_joined beside e
+pub behind_append : (d e : Data) → behind (count_of d) (append d e) ≡ e
+behind_append NoData e = refl
+behind_append (Atom leaf p beside) e = behind_append beside e
+behind_append (Listed p under beside) e = behind_append beside e
 
 -- a leaf before data
 pub leaf_begun : (leaf : Leaf) (p : ℕ) (d : Data) → begun (leaf_kind leaf) p d ≡ Atom leaf p d
@@ -40,20 +40,20 @@ leaf_begun (Text s) p d = refl
 leaf_begun (Time t) p d = refl
 
 -- what is written for data, with other nodes after it, reads as these data with theirs after them
-pub data_in_front : (d : Data) (ns : List DatumNode) → data_of (written d ++ ns) ≡ joined d (data_of ns)
+pub data_in_front : (d : Data) (ns : List DatumNode) → data_of (written d ++ ns) ≡ append d (data_of ns)
 data_in_front NoData ns = refl
 data_in_front (Atom leaf p beside) ns = leaf_begun leaf p (data_of (written beside ++ ns)) ∙ ap (Atom leaf p) (data_in_front beside ns)
 data_in_front (Listed p under beside) ns =
-    let rest : data_of ((written under ++ written beside) ++ ns) ≡ joined under (joined beside (data_of ns)) =
+    let rest : data_of ((written under ++ written beside) ++ ns) ≡ append under (append beside (data_of ns)) =
     ap data_of (append_assoc (written under) (written beside) ns) ∙ data_in_front under (written beside ++ ns)
-    ∙ ap (joined under) (data_in_front beside ns) in
+    ∙ ap (append under) (data_in_front beside ns) in
     ap (begun (AList (count_of under) (length (written under))) p) rest
-    ∙ ap (λ e. Listed p e (behind (count_of under) (joined under (joined beside (data_of ns))))) (front_joined under (joined beside (data_of ns)))
-    ∙ ap (Listed p under) (behind_joined under (joined beside (data_of ns)))
+    ∙ ap (λ e. Listed p e (behind (count_of under) (append under (append beside (data_of ns))))) (front_append under (append beside (data_of ns)))
+    ∙ ap (Listed p under) (behind_append under (append beside (data_of ns)))
 
 -- what is written for data reads as them
 pub data_back : (d : Data) → data_of (written d) ≡ d
-data_back d = ap data_of (sym (append-nil (written d))) ∙ data_in_front d [] ∙ joined_none d
+data_back d = ap data_of (sym (append-nil (written d))) ∙ data_in_front d [] ∙ append_none d
 
 -- a kind as three numbers
 abbrev pub numbers_of : DatumKind → ℕ × (ℕ × ℤ)

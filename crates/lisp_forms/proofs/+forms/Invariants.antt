@@ -66,11 +66,11 @@ decreases-expand::push_list l = 40 * size_of l.under + 7
 abbrev pub decreases-expand::push_over : goal.decreases-expand::push_over
 decreases-expand::push_over l = 40 * size_of l.arguments + 3
 
-abbrev pub decreases-expand::push_placed : goal.decreases-expand::push_placed
-decreases-expand::push_placed l = 40 * size_of (with_first l.first NoData) + 1
+abbrev pub decreases-expand::push_seated : goal.decreases-expand::push_seated
+decreases-expand::push_seated l = 40 * size_of (with_first l.first NoData) + 1
 
-abbrev pub decreases-expand::push_placed_list : goal.decreases-expand::push_placed_list
-decreases-expand::push_placed_list l = 40 * size_of l.under + 6
+abbrev pub decreases-expand::push_seated_list : goal.decreases-expand::push_seated_list
+decreases-expand::push_seated_list l = 40 * size_of l.under + 6
 
 abbrev pub decreases-expand::push_shaped : goal.decreases-expand::push_shaped
 decreases-expand::push_shaped l = 40 * size_of l.arguments + 6

@@ -1,5 +1,5 @@
 -- To which implicit blocks something returns, as the code finds it, from the last node on.
-use Rattle.std.specs.Prelude.{ℕ, zero, suc, ◌+◌, ◌-◌, List, [], ◌∷◌, ◌++◌, Bool, Option, Some, None, ◌==◌, length, get_or, take, drop}
+use Rattle.std.specs.Prelude.{ℕ, zero, suc, ◌-◌, List, [], ◌∷◌, ◌++◌, Bool, Option, Some, None, ◌==◌, length, get_or, take, drop}
 use Rattle.std.specs.List.{list_any}
 use Rattle.lisp_base.specs.Forest.{NoTrees, Tree}
 use Rattle.form_shapes.specs.declared.expanded.Expanded.{Expanded}

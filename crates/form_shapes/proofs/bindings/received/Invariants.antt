@@ -1,7 +1,7 @@
 use Rattle.std.proofs.Common.{◌≡◌, drop}
 use Rattle.form_shapes.specs.Bindings
 use Rattle.form_shapes.specs.inside.Contexts.{scope_in, with_opened}
-use Rattle.form_shapes.specs.Places.{scope_within}
+use Rattle.form_shapes.specs.Seats.{scope_within}
 use Rattle.form_shapes.proofs.bindings.received.Given as goal
 
 -- what the parameters that are left open in what is open so far is all

@@ -5,7 +5,7 @@ use Rattle.form_shapes.specs.declared.expanded.Expanded.TheVariants.{Defun}
 use Rattle.form_shapes.specs.declared.levels.Level.TheVariants.{Block}
 use Rattle.form_shapes.specs.Bindings.{function_body_of}
 use Rattle.form_shapes.specs.inside.Contexts.{scope_at, with_opened}
-use Rattle.form_shapes.specs.Places.{parameters_in}
+use Rattle.form_shapes.specs.Seats.{parameters_in}
 use Rattle.form_shapes.specs.Scopes.{Scope, inside}
 use Rattle.lisp_forms.specs.inside.Flat.{node}
 use Rattle.lisp_forms.proofs.Lambdas.{within-depth}

@@ -1,6 +1,6 @@
 use Rattle.std.proofs.Common.{◌∙◌, arith}
 use Rattle.form_shapes.proofs.Counted.{counted_few, counted_next}
-use Rattle.form_shapes.proofs.keywords.parts_of.Goals as goal
+use Rattle.form_shapes.proofs.keywords.part_count.Goals as goal
 
 pub loop-index-preserved : goal.loop-index-preserved
 loop-index-preserved c = record {

@@ -1,6 +1,6 @@
 ghost use Rattle.std.specs.Prelude.{◌≡◌, IfOk};
 ghost use Rattle.form_shapes.specs.inside.Contexts.{scope_in};
-ghost use Rattle.form_shapes.specs.Places;
+ghost use Rattle.form_shapes.specs.Seats;
 
 use crate::bindings::{list_fault, parameters_of};
 use crate::expanded::Expanded;
@@ -15,9 +15,9 @@ use lisp_data::items::{First, Items};
 use lisp_program::form::CoreKind;
 use std::alloc::Global;
 
-/// What a list is in a function's place.
+/// What a list is in a function's seat.
 #[derive(Clone, Copy)]
-pub enum Placed {
+pub enum Seated {
     /// A `lambda`.
     Made,
     /// `#'` of a `lambda`, which stands for itself.
@@ -29,7 +29,7 @@ pub enum Placed {
 /// The refusal of a form that may not stand here, where this is what it would be refused for elsewhere at this place: that of the two
 /// with the lesser number.
 fn misplaced_refusal(refusal: Refusal) -> Refusal
-    ensures { result ≡ Places.misplaced_refusal refusal }
+    ensures { result ≡ Seats.misplaced_refusal refusal }
 {
     if refusal.number() < Refusal::FunctionPlace.number() {
         refusal
@@ -40,7 +40,7 @@ fn misplaced_refusal(refusal: Refusal) -> Refusal
 
 /// The refusal of a form that may not stand here, by what would stand for it elsewhere.
 pub fn misplaced_kind(kind: Expanded) -> Expanded
-    ensures { result ≡ Places.misplaced_kind kind }
+    ensures { result ≡ Seats.misplaced_kind kind }
 {
     match kind {
         Expanded::Refused(refusal) | Expanded::RefusedFunction(refusal) => {
@@ -52,7 +52,7 @@ pub fn misplaced_kind(kind: Expanded) -> Expanded
 
 /// The refusal of a list of this shape that may not stand here.
 fn misplaced_shape(place: Place, shape: &Shape) -> Expanded
-    ensures { result ≡ Places.misplaced_shape place shape.now }
+    ensures { result ≡ Seats.misplaced_shape place shape.now }
 {
     match shape {
         Shape::Wrong(refusal, at) if at.0 == place.0 => {
@@ -64,72 +64,72 @@ fn misplaced_shape(place: Place, shape: &Shape) -> Expanded
 }
 
 /// A `lambda` whose parameters have this fault or none.
-fn lambda_placed(fault: Option<Refusal>) -> Placed
-    ensures { result ≡ Places.lambda_placed fault }
+fn lambda_seated(fault: Option<Refusal>) -> Seated
+    ensures { result ≡ Seats.lambda_seated fault }
 {
     match fault {
-        None => Placed::Made,
+        None => Seated::Made,
         Some(refusal) if refusal.is(Refusal::DefinedTwice) => {
-            Placed::Other(Expanded::RefusedFunction(Refusal::DefinedTwice))
+            Seated::Other(Expanded::RefusedFunction(Refusal::DefinedTwice))
         }
-        Some(refusal) => Placed::Other(Expanded::Refused(refusal)),
+        Some(refusal) => Seated::Other(Expanded::Refused(refusal)),
     }
 }
 
 /// `#'` of what may be the name of a function.
-fn name_placed(context: &Context, name: Option<SymbolId>) -> Placed
-    ensures { result ≡ Places.name_placed (scope_in context.now) name }
+fn name_seated(context: &Context, name: Option<SymbolId>) -> Seated
+    ensures { result ≡ Seats.name_seated (scope_in context.now) name }
 {
     let Some(name) = name else {
-        return Placed::Other(Expanded::Refused(Refusal::BadForm));
+        return Seated::Other(Expanded::Refused(Refusal::BadForm));
     };
     if has(context.functions, name) {
         let function = CoreKind::Function(FunctionName::Named(name));
-        return Placed::Other(Expanded::Form(function));
+        return Seated::Other(Expanded::Form(function));
     }
-    Placed::Other(Expanded::Refused(Refusal::UnknownOperator))
+    Seated::Other(Expanded::Refused(Refusal::UnknownOperator))
 }
 
 /// `#'` of these data: of a name, or of a `lambda`.
-fn function_placed(context: &Context, arguments: &Items) -> Placed
-    ensures { result ≡ Places.function_placed (scope_in context.now) arguments.now }
+fn function_seated(context: &Context, arguments: &Items) -> Seated
+    ensures { result ≡ Seats.function_seated (scope_in context.now) arguments.now }
 {
     let Some((first, others)) = arguments.split_first() else {
-        return Placed::Other(Expanded::Refused(Refusal::BadForm));
+        return Seated::Other(Expanded::Refused(Refusal::BadForm));
     };
     if others.count() != 0 {
-        return Placed::Other(Expanded::Refused(Refusal::BadForm));
+        return Seated::Other(Expanded::Refused(Refusal::BadForm));
     }
     match first {
-        First::Leaf(leaf, _) => name_placed(context, leaf_symbol(leaf)),
+        First::Leaf(leaf, _) => name_seated(context, leaf_symbol(leaf)),
         First::List(_, under) => {
             if is_named(context.symbols, "LAMBDA", first_symbol(&under)) {
-                Placed::Inner
+                Seated::Inner
             } else {
-                Placed::Other(Expanded::Refused(Refusal::BadForm))
+                Seated::Other(Expanded::Refused(Refusal::BadForm))
             }
         }
     }
 }
 
-/// What a list of these, which is at a place, is in a function's place.
-pub fn placed_of(
+/// What a list of these, which is at a place, is in a function's seat.
+pub fn seated_of(
     alloc: Global,
     context: &Context,
     place: Place,
     under: &Items,
-) -> Result<Placed, Memory>
-    ensures { IfOk result (λ placed. placed ≡ Places.placed_of (scope_in context.now) place under.now) }
+) -> Result<Seated, Memory>
+    ensures { IfOk result (λ seated. seated ≡ Seats.seated_of (scope_in context.now) place under.now) }
 {
     let operator = operator_at(context, first_symbol(under));
     match operator {
         Some(Operator::Lambda) => {
             let parameters = parameters_of(alloc, &under.skip(1))?;
-            Ok(lambda_placed(list_fault(context.symbols, &parameters)))
+            Ok(lambda_seated(list_fault(context.symbols, &parameters)))
         }
-        Some(Operator::Function) => Ok(function_placed(context, &under.skip(1))),
+        Some(Operator::Function) => Ok(function_seated(context, &under.skip(1))),
         _ => match shape_led(alloc, context, place, operator, under.skip(1)) {
-            Ok(shape) => Ok(Placed::Other(misplaced_shape(place, &shape))),
+            Ok(shape) => Ok(Seated::Other(misplaced_shape(place, &shape))),
             Err(memory) => Err(memory),
         },
     }
