@@ -80,6 +80,11 @@ data_of (n ∷ ns) = begun n.kind n.place (data_of ns)
 abbrev pub AreWhole : List DatumNode → Type 0
 AreWhole nodes = written (data_of nodes) ≡ nodes
 
+-- These nodes are those of whole data. They are fewer than 2^30, which is more than any text has.
+pub record AreData (nodes : List DatumNode) : Type 0 where
+  pub whole : AreWhole nodes
+  pub short : length nodes < 2 ^ 30
+
 -- These nodes are those of one whole datum. They are fewer than 2^30, which is more than any text has.
 pub record IsDatum (nodes : List DatumNode) : Type 0 where
   pub whole : AreWhole nodes

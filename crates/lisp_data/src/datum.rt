@@ -42,11 +42,11 @@ pub struct DatumNode {
 
 /// One datum, as its nodes in preorder. Contracts see the tree.
 #[derive(Debug, Drop)]
-pub struct Datum {
-    nodes: Vec<DatumNode>,
+pub struct Datum<'a> {
+    nodes: &'a [DatumNode],
 }
 
-impl Model for Datum {
+impl<'a> Model for Datum<'a> {
     ghost use Rattle.lisp_data.specs.Data.{Data, IsDatum, data_of};
     ghost use Rattle.lisp_data.specs.inside.DataCode.{data_code};
 
@@ -54,9 +54,9 @@ impl Model for Datum {
 
     ghost coded = { data_code };
 
-    ghost view = { λ d. data_of d.nodes.items };
+    ghost view = { λ d. data_of d.nodes.now };
 
-    ghost invariant = { λ d. IsDatum d.nodes.items };
+    ghost invariant = { λ d. IsDatum d.nodes.now };
 }
 
 impl Leaf {
@@ -85,21 +85,21 @@ impl DatumNode {
     }
 }
 
-impl Datum {
+impl<'a> Datum<'a> {
     /// The datum with these nodes. It takes no memory.
-    pub fn of(nodes: Vec<DatumNode>) -> Self
-        requires { IsDatum nodes.items }
-        ensures { result ≡ data_of nodes.items }
+    pub fn of(nodes: &'a [DatumNode]) -> Self
+        requires { IsDatum nodes.now }
+        ensures { result ≡ data_of nodes.now }
     {
         Datum { nodes }
     }
 
     /// Its nodes, each list before its items.
-    pub fn nodes(&self) -> &[DatumNode]
+    pub fn nodes(&self) -> &'a [DatumNode]
         ensures nodes { result.now ≡ written self.now }
         ensures one { count_of self.now ≡ 1 }
         ensures short { length result.now < 2 ^ 30 }
     {
-        self.nodes.as_slice()
+        self.nodes
     }
 }

@@ -36,7 +36,7 @@ pub enum First<'a> {
 
 impl<'a> Items<'a> {
     /// Just one datum.
-    pub fn of(datum: &'a Datum) -> Items<'a>
+    pub fn of(datum: &Datum<'a>) -> Items<'a>
         ensures same { result ≡ datum.now }
         ensures one { count_of result ≡ 1 }
         ensures short { length (written result) < 2 ^ 30 }

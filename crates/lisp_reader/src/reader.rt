@@ -1,5 +1,6 @@
 ghost use Rattle.std.specs.Prelude.{◌≡◌, IfOk};
 ghost use Rattle.std.specs.Result.{IfErr};
+ghost use Rattle.lisp_data.specs.Data.{each};
 ghost use Rattle.lisp_reader.specs.Reading.{IsRefusal, NeverBoth, OneReading, OneRefusal, ReadOrRefused, Reads};
 ghost use Rattle.lisp_reader.specs.Tables.{tables_of};
 ghost use Rattle.lisp_reader.specs.Tokens.{RunsAreTokens, TokensAreRuns};
@@ -8,8 +9,7 @@ use crate::build::nodes_of;
 use crate::gather::gather;
 use lisp_base::id::Place;
 use lisp_base::refusal::{Refusal, Rejection};
-use lisp_data::datum::Datum;
-use lisp_data::split::split;
+use lisp_data::split::AllData;
 use std::alloc::Global;
 use symbol_table::symbols::Symbols;
 use symbol_table::texts::Texts;
@@ -25,8 +25,8 @@ pub fn read_program(
     text: &[u8],
     symbols: &mut Symbols,
     texts: &mut Texts,
-) -> Result<Vec<Datum>, Rejection>
-    ensures read { IfOk result (λ read. Reads text.now (tables_of symbols.old texts.old) (tables_of symbols.new texts.new) read.items) }
+) -> Result<AllData, Rejection>
+    ensures read { IfOk result (λ read. Reads text.now (tables_of symbols.old texts.old) (tables_of symbols.new texts.new) (each read)) }
     ensures refused { IfErr result (IsRefusal text.now (tables_of symbols.old texts.old) (tables_of symbols.new texts.new)) }
 {
     if text.len() > LONGEST {
@@ -37,8 +37,7 @@ pub fn read_program(
     }
     let marks = gather(alloc, text, symbols, texts)?;
     let nodes = nodes_of(alloc, marks.as_slice())?;
-    let data = split(alloc, nodes.as_slice())?;
-    Ok(data)
+    Ok(AllData::of(nodes))
 }
 
 /// A text has at most one reading. There is nothing to run: the clause is the law, as it is in the five functions below.

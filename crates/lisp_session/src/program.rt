@@ -38,7 +38,8 @@ fn whole_program(
     ensures refused { IfErr result (IsRefusal bytes.now) }
 {
     let data = read_program(alloc, bytes, symbols, texts)?;
-    expand(alloc, data.as_slice(), symbols, texts)
+    let program = data.each(alloc)?;
+    expand(alloc, program.as_slice(), symbols, texts)
 }
 
 /// The forms of main in the kinds that are run. It errs at the first form that is not run yet.

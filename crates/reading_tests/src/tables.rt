@@ -4,6 +4,7 @@ use lisp_base::id::{Micros, Place, StringId, SymbolId};
 use lisp_base::memory::Memory;
 use lisp_base::refusal::{Refusal, Rejection};
 use lisp_data::datum::{Datum, DatumKind, DatumNode};
+use lisp_data::split::AllData;
 use lisp_reader::reader::read_program;
 use std::alloc::{AllocError, Global};
 use std::test::Fail;
@@ -50,7 +51,7 @@ impl Tables {
         &mut self,
         alloc: Global,
         text: &[u8],
-    ) -> Result<Result<Vec<Datum>, (Refusal, u32)>, Fail> {
+    ) -> Result<Result<AllData, (Refusal, u32)>, Fail> {
         match read_program(alloc, text, &mut self.symbols, &mut self.texts) {
             Ok(data) => Ok(Ok(data)),
             Err(
@@ -67,7 +68,7 @@ impl Tables {
     pub fn outcome(&mut self, alloc: Global, text: &[u8], told: Told) -> Result<String, Fail> {
         let outcome = self.read(alloc, text)?;
         let mut printed = match &outcome {
-            Ok(data) => self.told(alloc, data.as_slice(), told)?,
+            Ok(data) => self.told(alloc, data.each(alloc)?.as_slice(), told)?,
             Err((refusal, place)) => {
                 let name = refusal.name();
                 format!(in alloc; "refusal {name} at {place}")?

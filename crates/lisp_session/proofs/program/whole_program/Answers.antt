@@ -9,9 +9,9 @@ returns-in_err-data-clause-refused c =
 pub returns-clause-read : goal.returns-clause-read
 returns-clause-read c =
     data_read c.expand.result program_of c.args.bytes.now _ _ _ _ _ c.requires.0 c.requires.1 c.in_ok-data.ensures.read
-    (rw c.as_slice.ensures.value at c.expand.ensures.expanded)
+    (rw c.in_ok-program.ensures at (rw c.as_slice.ensures.value at c.expand.ensures.expanded))
 
 pub returns-clause-refused : goal.returns-clause-refused
 returns-clause-refused c =
     data_told c.expand.result c.args.bytes.now _ _ _ _ _ c.requires.0 c.requires.1 c.in_ok-data.ensures.read
-    (rw c.as_slice.ensures.value at c.expand.ensures.refused)
+    (rw c.in_ok-program.ensures at (rw c.as_slice.ensures.value at c.expand.ensures.refused))
