@@ -1,45 +1,38 @@
 -- The letters of names are in ASCII, and so they are in upper case.
-use Rattle.std.specs.Char.{is_ascii, to_ascii_uppercase}
+use Rattle.std.specs.Char.{is_ascii}
 use Rattle.std.specs.List.{list_all}
 use Rattle.std.specs.Str.{bytes_eq}
 use Rattle.std.specs.Str.Parse.{digits_value}
-use Rattle.std.proofs.Common.{◌≡◌, ℕ, neg_ℤ, ◌+◌, ◌<◌, ◌^◌, Bool, true, false, true≢false, IsTrue, ◌&&◌, ◌||◌, ◌==◌, nat_lt, nat_le, if◌then◌else◌, List, [], ◌∷◌, ◌++◌, length, get_or, take, drop, map, codes, refl, ap, sym, subst, ◌∙◌, arith, pos}
-use Rattle.std.proofs.lemmas.Bool.{true_from_ne_false}
+use Rattle.std.proofs.Common.{◌≡◌, ℕ, zero, suc, IsUtf8, IsAscii, neg_ℤ, ◌<◌, ◌^◌, Bool, true, false, IsTrue, ◌&&◌, ◌||◌, ◌==◌, nat_lt, nat_le, if◌then◌else◌, List, [], ◌∷◌, length, get_or, take, drop, codes, refl, ap, sym, subst, ◌∙◌, arith, pos}
 use Rattle.std.proofs.lemmas.Bool.Decides.{nat_tests}
-use Rattle.std.proofs.lemmas.List.{map_more}
-use Rattle.std.proofs.lemmas.List.Folds.{list_all_at}
 use Rattle.std.proofs.lemmas.Slice.Eq.{bytes_eq-Decides}
+use Rattle.std.proofs.lemmas.Str.{IsUtf8-from_ascii}
 use Rattle.lisp_reader.specs.declared.meaning.Meaning.{Meaning}
 use Rattle.lisp_reader.specs.declared.meaning.Meaning.TheVariants.{Integer, Time, Symbol, Keyword, TooLarge, Bad}
 use Rattle.lisp_reader.specs.Meanings.{are_digits, before_colon, begins_as_number, behind_colons, integer_of, is_name_letter, is_package, is_symbol_name, is_time, keyword_in, meaning_in, micros_in, named, symbol_at, time_of, unsigned, upper}
-
--- upper case is ASCII as well
-upper_small : (b : ℕ) → b < 128 → to_ascii_uppercase b < 128
-upper_small b h = grind (arith, nat_tests)
-
--- a letter of letters in ASCII
-pub letter_small : (letters : List ℕ) (i : ℕ) → list_all is_ascii letters ≡ true → i < length letters → get_or letters i 0 < 128
-letter_small letters i h inside =
-    let small : is_ascii (get_or letters i 0) ≡ true =
-    true_from_ne_false _ (λ e. true≢false (sym h ∙ list_all_at is_ascii letters i 0 inside e)) in
-    grind (arith, nat_tests)
-
--- one more letter of a name in upper case
-pub upper_more : (letters before after code : List ℕ) (i ch : ℕ) → IsTrue (list_all is_ascii letters) → i < length letters
-    → ch ≡ to_ascii_uppercase (get_or letters i 0) → (ch < 128 → code ≡ ch ∷ []) → before ≡ map to_ascii_uppercase (take i letters)
-    → after ≡ before ++ code → after ≡ map to_ascii_uppercase (take (i + 1) letters)
-upper_more letters before after code i ch h inside is one sofar put =
-    let small : ch < 128 = rw is (upper_small _ (letter_small letters i h inside)) in
-    rw (put, one small, sofar, is) (sym (map_more to_ascii_uppercase letters i 0 inside))
-
--- a letter of names is in ASCII
-name_letter_small : (b : ℕ) → is_name_letter b ≡ true → is_ascii b ≡ true
-name_letter_small b h = grind (arith, nat_tests)
 
 -- two tests that hold
 both : (a b : Bool) → (a && b) ≡ true → (a ≡ true) × (b ≡ true)
 both true b h = (refl, h)
 both false b h = cc
+
+-- a letter in ASCII is small
+ascii_small : (b : ℕ) → is_ascii b ≡ true → b < 128
+ascii_small b h = grind (arith, nat_tests)
+
+-- so are all
+all_small : (letters : List ℕ) → list_all is_ascii letters ≡ true → IsAscii letters
+all_small [] h i = omega arith
+all_small (b ∷ bs) h zero = ascii_small b (both (is_ascii b) (list_all is_ascii bs) h).0
+all_small (b ∷ bs) h (suc i) = all_small bs (both (is_ascii b) (list_all is_ascii bs) h).1 i
+
+-- letters in ASCII are UTF-8
+pub ascii_utf8 : (letters : List ℕ) → IsTrue (list_all is_ascii letters) → IsUtf8 letters
+ascii_utf8 letters h = IsUtf8-from_ascii letters (all_small letters h)
+
+-- a letter of names is in ASCII
+name_letter_small : (b : ℕ) → is_name_letter b ≡ true → is_ascii b ≡ true
+name_letter_small b h = grind (arith, nat_tests)
 
 -- letters of names are
 names_small : (letters : List ℕ) → list_all is_name_letter letters ≡ true → list_all is_ascii letters ≡ true

@@ -67,21 +67,24 @@ fn text(texts: &mut Texts, characters: &str, place: Place) -> Result<StringId, R
     }
 }
 
-/// Letters in upper case.
-fn upper(alloc: Global, letters: &[u8]) -> Result<String, Memory>
+/// Makes a text that of these letters in upper case.
+fn write_upper(letters: &[u8], name: &mut String) -> Result<(), Memory>
     requires { IsTrue (list_all is_ascii letters.now) }
-    ensures { IfOk result (λ name. string_bytes name ≡ Meanings.upper letters.now) }
+    ensures { OnOk result (string_bytes name.new ≡ Meanings.upper letters.now) }
 {
-    let mut name = String::new(alloc);
-    for letter in letters {
-        name.push(char::from(letter.to_ascii_uppercase()))?;
-    }
-    Ok(name)
+    // Letters in ASCII are UTF-8.
+    let Ok(text) = str::from_utf8(letters) else {
+        return Ok(());
+    };
+    name.clear();
+    name.push_str(text)?;
+    name.make_ascii_uppercase();
+    Ok(())
 }
 
-/// The symbol that these letters of a token name, in upper case.
+/// The symbol that these letters of a token name, in upper case. What the text had is lost: it only spares a new one for each token.
 fn spelled(
-    alloc: Global,
+    name: &mut String,
     letters: &[u8],
     place: Place,
     symbols: &mut Symbols,
@@ -90,13 +93,13 @@ fn spelled(
     ensures interned { IfOk result (IsInterned symbols.old symbols.new (Meanings.upper letters.now)) }
     ensures refused { IfErr result (IsNotInterned TooManySymbols place symbols.old symbols.new (Meanings.upper letters.now)) }
 {
-    let name = upper(alloc, letters)?;
-    symbol(symbols, &name, place)
+    write_upper(letters, name)?;
+    symbol(symbols, name.as_str(), place)
 }
 
 /// The leaf that a token is.
 fn token_leaf(
-    alloc: Global,
+    name: &mut String,
     letters: &[u8],
     place: Place,
     symbols: &mut Symbols,
@@ -108,12 +111,12 @@ fn token_leaf(
         Meaning::Integer(number) => Ok(Leaf::Int(number)),
         Meaning::Time(micros) => Ok(Leaf::Time(Micros(micros))),
         Meaning::Symbol(start) => {
-            let name = letters_from(letters, start);
-            let id = spelled(alloc, name, place, symbols)?;
+            let letters = letters_from(letters, start);
+            let id = spelled(name, letters, place, symbols)?;
             Ok(Leaf::Symbol(id))
         }
         Meaning::Keyword => {
-            let id = spelled(alloc, letters, place, symbols)?;
+            let id = spelled(name, letters, place, symbols)?;
             Ok(Leaf::Symbol(id))
         }
         Meaning::TooLarge => Err(Rejection::at(Refusal::NumberTooLarge, place)),
@@ -134,6 +137,8 @@ fn letters_at(text: &[u8], at: usize, count: usize) -> &[u8]
 struct Gatherer {
     opens: Opens,
     marks: Vec<Mark>,
+    /// A text in which names are put in upper case. What it has does not matter.
+    name: String,
 }
 
 impl Gatherer {
@@ -145,6 +150,7 @@ impl Gatherer {
         Gatherer {
             opens: Opens::new(alloc),
             marks: Vec::new(alloc),
+            name: String::new(alloc),
         }
     }
 
@@ -222,7 +228,6 @@ impl Gatherer {
     /// Takes a token with these letters.
     fn take_token(
         &mut self,
-        alloc: Global,
         letters: &[u8],
         place: Place,
         symbols: &mut Symbols,
@@ -230,7 +235,7 @@ impl Gatherer {
         ensures took { (literals : List (List ℕ)) → IfOk result (λ _. TookPart (Token' place letters.now) self.old.opens self.new.opens (tables_of symbols.old literals) (tables_of symbols.new literals) self.old.marks.items self.new.marks.items) }
         ensures refused { (literals : List (List ℕ)) → IfErr result (RefusedPart (Token' place letters.now) self.old.opens (tables_of symbols.old literals) (tables_of symbols.new literals)) }
     {
-        let leaf = token_leaf(alloc, letters, place, symbols)?;
+        let leaf = token_leaf(&mut self.name, letters, place, symbols)?;
         self.opens.settle();
         self.put(MarkKind::ALeaf(leaf), place)?;
         Ok(())
@@ -239,7 +244,6 @@ impl Gatherer {
     /// Takes the part of this kind that begins at a place of a text.
     fn take(
         &mut self,
-        alloc: Global,
         text: &[u8],
         at: usize,
         kind: &PartKind,
@@ -258,7 +262,7 @@ impl Gatherer {
             PartKind::Text(characters) => self.take_literal(characters, place, texts),
             PartKind::OpenText => Err(Rejection::at(Refusal::EndInside, place)),
             PartKind::Token(count) => {
-                self.take_token(alloc, letters_at(text, at, *count), place, symbols)
+                self.take_token(letters_at(text, at, *count), place, symbols)
             }
         }
     }
@@ -295,7 +299,7 @@ pub fn gather(
         match scan(alloc, text, at)? {
             Scanned::Blank(next) => at = next,
             Scanned::Found(kind, next) => {
-                gatherer.take(alloc, text, at, &kind, symbols, texts)?;
+                gatherer.take(text, at, &kind, symbols, texts)?;
                 at = next;
             }
         }

@@ -1,5 +1,5 @@
 -- How one part is scanned at a place of a text.
-use Rattle.std.specs.Prelude.{◌≡◌, ℕ, ◌<◌, ◌≤◌, List, ◌∷◌, Bool, not, ◌||◌, ◌==◌, length, take, drop, string_bytes}
+use Rattle.std.specs.Prelude.{◌≡◌, ℕ, ◌<◌, ◌≤◌, List, ◌∷◌, Bool, not, ◌==◌, length, take, drop, string_bytes}
 use Rattle.lisp_base.specs.Bytes.{newline}
 use Rattle.std.specs.Str.{IsUtf8}
 use Rattle.lisp_reader.specs.declared.scan.PartKind.{PartKind}
