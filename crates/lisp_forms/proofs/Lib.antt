@@ -5,6 +5,7 @@ pub mod Specials
 pub mod Skipping
 pub mod Lowering
 pub mod Making
+pub mod Blockless
 pub mod Limits
 pub mod Told
 pub mod Cores

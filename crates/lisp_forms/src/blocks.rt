@@ -79,14 +79,14 @@ pub fn push_blocked(
     number: u32,
     place: Place,
     count: u32,
-    body: &[ExpandedNode],
+    body: Vec<ExpandedNode>,
     nodes: &mut Writer<ExpandedNode>,
 )
-    ensures { (e : Expansion) → body.now ≡ flat e → count ≡ count_of e → Wrote nodes.old nodes.new (flat (Blocks.blocked number place e)) }
+    ensures { (e : Expansion) → body.items ≡ flat e → count ≡ count_of e → Wrote nodes.old nodes.new (flat (Blocks.blocked number place e)) }
 {
-    if returns_to(number, body) {
+    if returns_to(number, body.as_slice()) {
         push_form(CoreKind::Block(number), place, count, nodes);
-        return nodes.extend(body);
+        return nodes.extend(body.as_slice());
     }
     match without_block(alloc, number, count, body) {
         Ok(lowered) => nodes.extend(lowered.as_slice()),
@@ -99,9 +99,9 @@ fn without_block(
     alloc: Global,
     number: u32,
     count: u32,
-    body: &[ExpandedNode],
+    body: Vec<ExpandedNode>,
 ) -> Result<Vec<ExpandedNode>, Memory>
-    ensures { IfOk result (λ nodes. (e : Expansion) → body.now ≡ flat e → count ≡ count_of e → nodes.items ≡ flat (Blocks.lowered (number ∷ []) e)) }
+    ensures { IfOk result (λ nodes. (e : Expansion) → body.items ≡ flat e → count ≡ count_of e → nodes.items ≡ flat (Blocks.lowered (number ∷ []) e)) }
 {
     let mut gone = Vec::new(alloc);
     gone.push(number)?;

@@ -166,32 +166,35 @@ fn take_made(node: &ExpandedNode, made: &mut Vec<bool>) -> bool
     }
 }
 
-/// These, of so many forms, without the implicit blocks to which nothing returns, where the given ones round them are not made either, the innermost last.
+/// These, of so many forms, without the implicit blocks to which nothing returns, where the given ones round them are not made either,
+/// the innermost last. Each node is changed where it stands.
 pub fn lowered(
     alloc: Global,
     gone: Vec<u32>,
     count: u32,
-    nodes: &[ExpandedNode],
+    nodes: Vec<ExpandedNode>,
 ) -> Result<Vec<ExpandedNode>, Memory>
-    ensures { IfOk result (λ all. (e : Expansion) → nodes.now ≡ flat e → count ≡ count_of e → all.items ≡ flat (Blocks.lowered (reverse gone.items) e)) }
+    ensures { IfOk result (λ all. (e : Expansion) → nodes.items ≡ flat e → count ≡ count_of e → all.items ≡ flat (Blocks.lowered (reverse gone.items) e)) }
 {
-    let mut made = made_blocks(alloc, nodes)?;
-    let mut all = Vec::new(alloc);
-    all.reserve(nodes.len())?;
+    let mut made = made_blocks(alloc, nodes.as_slice())?;
+    let mut all = nodes;
     let mut pass = Pass {
         left: count,
         gone,
         outer: Vec::new(alloc),
     };
-    for node in nodes {
+    let mut index = 0;
+    while index < all.len() {
         pass.close();
-        let made = take_made(node, &mut made);
-        all.push(ExpandedNode {
+        let node = all[index];
+        let made = take_made(&node, &mut made);
+        all[index] = ExpandedNode {
             kind: lowered_kind(pass.gone.as_slice(), node.kind, made),
             place: node.place,
             parts: node.parts,
-        })?;
-        pass.begin(alloc, node, made)?;
+        };
+        pass.begin(alloc, &node, made)?;
+        index += 1;
     }
     Ok(all)
 }

@@ -1,10 +1,28 @@
 ghost use Rattle.std.specs.Prelude.{◌≡◌, IfOk, OnOk};
-ghost use Rattle.lisp_forms.specs.inside.Made.{bottom_of, has_from, nothing_seen, seen_as, seen_node, seen_of};
+ghost use Rattle.std.specs.List.{list_any};
+ghost use Rattle.lisp_forms.specs.inside.Made.{bottom_of, has_from, is_in_block, nothing_seen, seen_as, seen_node, seen_of};
 
 use form_shapes::expanded::{Expanded, ExpandedNode};
 use lisp_base::memory::Memory;
 use lisp_program::form::CoreKind;
 use std::alloc::Global;
+
+/// Whether a form has an implicit block.
+fn is_in_block(kind: &Expanded) -> bool
+    ensures { result ≡ is_in_block kind.now }
+{
+    match kind {
+        Expanded::InBlock(_, _) => true,
+        _ => false,
+    }
+}
+
+/// Whether some form among these nodes has an implicit block.
+pub fn has_block(nodes: &[ExpandedNode]) -> bool
+    ensures { result ≡ list_any (λ n. is_in_block n.kind) nodes.now }
+{
+    nodes.iter().any(|node| is_in_block(&node.kind))
+}
 
 /// What was seen of nodes, from the last one on.
 #[derive(Drop)]

@@ -12,6 +12,7 @@ ghost use Rattle.lisp_forms.specs.Program;
 use crate::blocks::{blocked_parts, push_blocked};
 use crate::expand::{push_all, push_shaped};
 use crate::lowered::lowered;
+use crate::made::has_block;
 use crate::nodes::push_node;
 use crate::program::{
     add_name, built_in, definition_in, definition_of, function_in, function_of, is_built_in,
@@ -194,12 +195,11 @@ fn push_defun(
     let Ok(written) = written.finish() else {
         return nodes.fill();
     };
-    let inner = written.as_slice();
-    let blocked = blocked_parts(count, forms, inner);
+    let blocked = blocked_parts(count, forms, written.as_slice());
     let parts = special_parts(base.specials, bound, blocked);
     push_node(Expanded::Defun(name, count), place, parts, nodes);
     push_specials(base.specials, place, bound, blocked, nodes);
-    push_blocked(alloc, count, place, forms, inner, nodes)
+    push_blocked(alloc, count, place, forms, written, nodes)
 }
 
 /// Writes a list of this shape with these arguments at top level.
@@ -313,6 +313,9 @@ pub fn expansion(
 {
     let count = count_forms(program)?;
     let forms = top_forms(alloc, base, levels, program)?;
-    let made = lowered(alloc, Vec::new(alloc), count, forms.as_slice())?;
+    if !has_block(forms.as_slice()) {
+        return Ok(forms);
+    }
+    let made = lowered(alloc, Vec::new(alloc), count, forms)?;
     Ok(made)
 }

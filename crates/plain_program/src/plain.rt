@@ -64,6 +64,7 @@ pub fn plain_nodes(alloc: Global, main: &[FormNode]) -> Result<Vec<PlainNode>, M
     ensures { IfOk result (λ nodes. forms_of nodes.items ≡ plain_forms (core_forms_of main.now)) }
 {
     let mut nodes = Vec::new(alloc);
+    nodes.reserve(main.len())?;
     for node in main {
         nodes.push(PlainNode {
             kind: kind_or_nil(node.kind),

@@ -1,5 +1,5 @@
 -- To which implicit blocks something returns, as the code finds it, from the last node on.
-use Rattle.std.specs.Prelude.{ℕ, zero, suc, ◌-◌, List, [], ◌∷◌, ◌++◌, Bool, Option, Some, None, ◌==◌, length, get_or, take, drop}
+use Rattle.std.specs.Prelude.{ℕ, zero, suc, ◌-◌, List, [], ◌∷◌, ◌++◌, Bool, true, false, Option, Some, None, ◌==◌, length, get_or, take, drop}
 use Rattle.std.specs.List.{list_any}
 use Rattle.lisp_base.specs.Forest.{NoTrees, Tree}
 use Rattle.form_shapes.specs.declared.expanded.Expanded.{Expanded}
@@ -8,6 +8,11 @@ use Rattle.form_shapes.specs.declared.expanded.ExpandedNode.{ExpandedNode}
 use Rattle.lisp_forms.specs.declared.made.Seen.{Seen as CodeSeen}
 use Rattle.lisp_forms.specs.Blocks.{exit_of, is_made}
 use Rattle.lisp_forms.specs.Trees.{Expansion}
+
+-- a form has an implicit block
+abbrev pub is_in_block : Expanded → Bool
+is_in_block (InBlock n turning) = true
+is_in_block _ = false
 
 -- what was seen of nodes: for each form that belongs to none of them how many returns were seen before it, the returns, and for each
 -- form with an implicit block whether it is made
