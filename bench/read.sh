@@ -2,13 +2,15 @@
 # How long lisp_run takes to read, expand and judge long texts, and how much memory: numbers at top level, lists nested 256 deep
 # again and again, mixed program text of forms that are run, and mixed text of forms of all kinds, which is judged whole and then
 # refused as not built; of 100,000 and of 1,000,000 bytes. The time of the empty text is taken off. Each time is the least of five
-# runs. Where SBCL is installed, the time of its `read` for the longer text stands beside.
+# runs. Where SBCL is installed, the time of its `read` for the longer text stands beside: the least of five times of ten readings each
+# in one process, as its clock may have steps of 4 ms.
 set -eu
 top=$(cd "$(dirname "${BASH_SOURCE[0]}")/.." && pwd)
 work=$(mktemp -d)
 trap 'rm -rf "$work"' EXIT
 printf '' | "$top/run" >/dev/null
 program=$top/crates/lisp_run/out/lisp_run
+. "$top/tools/memory.sh"
 
 python3 - "$work" <<'PY'
 import random, sys
@@ -113,11 +115,12 @@ cat >"$work/read.lisp" <<'LISP'
 (let ((least nil))
   (dotimes (turn 5)
     (let ((start (get-internal-real-time)))
-      (with-open-file (text (second sb-ext:*posix-argv*))
-        (loop until (eq (read text nil :eof) :eof)))
+      (dotimes (again 10)
+        (with-open-file (text (second sb-ext:*posix-argv*))
+          (loop until (eq (read text nil :eof) :eof))))
       (let ((taken (- (get-internal-real-time) start)))
         (when (or (null least) (< taken least)) (setf least taken)))))
-  (format t "~,1f" (/ (* 1000.0 least) internal-time-units-per-second)))
+  (format t "~,1f" (/ (* 100.0 least) internal-time-units-per-second)))
 LISP
 
 python3 - "$program" "$work" <<'PY'

@@ -8,6 +8,7 @@ trap 'rm -rf "$work"' EXIT
 printf '(print (+ 1 2))\n' >"$work/sum.lisp"
 "$top/run" "$work/sum.lisp" >/dev/null
 program=$top/crates/lisp_run/out/lisp_run
+. "$top/tools/memory.sh"
 
 python3 - "$program" "$work/sum.lisp" <<'PY'
 import os, shutil, subprocess, sys, time

@@ -8,6 +8,7 @@ work=$(mktemp -d)
 trap 'rm -rf "$work"' EXIT
 printf '' | "$top/run" >/dev/null
 program=$top/crates/lisp_run/out/lisp_run
+. "$top/tools/memory.sh"
 
 python3 - "$program" "$work" "${1-}" <<'PY'
 import os, subprocess, sys, time

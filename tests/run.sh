@@ -35,7 +35,7 @@ mkdir -p "$copy/tools" "$work/bin" "$work/tmp"
 chmod 755 "$work"
 chmod 777 "$work/tmp"
 cp "$top/run" "$copy/run"
-cp "$top/tools/explain.sh" "$copy/tools/explain.sh"
+cp "$top/tools/explain.sh" "$top/tools/memory.sh" "$copy/tools/"
 printf '%s\n' '# stand-ins' 'lisp_run: middle' 'others: low' 'middle: low anyhow' 'low:' >"$copy/crates.txt"
 for name in lisp_run others middle low; do
     mkdir -p "$copy/crates/$name/src"
