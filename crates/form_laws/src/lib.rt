@@ -1,0 +1,4 @@
+//! Laws of the expansion.
+#![tactic(auto)]
+
+pub mod scoping;
