@@ -40,7 +40,7 @@ def mixed(size):
     return "".join(lines[:-1])
 
 def place(variables, depth):
-    """A function in a function's place."""
+    """A function in a function's seat."""
     return f"(lambda (p{random.randrange(200)}) {body([], depth - 1)})" if random.random() < 0.5 else f"#'work{random.randrange(40)}"
 
 def body(variables, depth):
