@@ -1,6 +1,6 @@
 ghost use Rattle.std.specs.Prelude.{◌≡◌, IfOk, OnOk};
 ghost use Rattle.form_shapes.specs.Bindings;
-ghost use Rattle.form_shapes.specs.inside.Contexts.{scope_at, scope_in, with_opened};
+ghost use Rattle.form_shapes.specs.inside.Contexts.{scope_in, scope_of, with_opened};
 ghost use Rattle.form_shapes.specs.Scopes;
 ghost use Rattle.form_shapes.specs.Scopes.{Scope};
 
@@ -40,6 +40,19 @@ pub struct Base<'a> {
     pub functions: &'a [SymbolId],
 }
 
+/// What a form is read by, as the expander hands it on: what all forms of the program are read by, and what is open round this one.
+#[derive(Clone, Copy)]
+pub struct Within<'a, 'b, 'l> {
+    /// Where memory comes from, for what is opened inside.
+    pub alloc: Global,
+    /// What all forms of the program are read by.
+    pub base: &'b Base<'a>,
+    /// What is open round the form in its call and can be named.
+    pub levels: &'l Levels,
+    /// How much is open round it in all.
+    pub depth: u32,
+}
+
 /// What a form is read by.
 #[derive(Clone, Copy)]
 pub struct Context<'a, 'l> {
@@ -58,16 +71,17 @@ pub struct Context<'a, 'l> {
 }
 
 /// The context of a form: what all forms are read by, with what is open round this one.
-pub fn context_at<'a, 'l>(base: &Base<'a>, levels: &'l Levels, depth: u32) -> Context<'a, 'l>
-    ensures { scope_in result ≡ scope_at base.now levels.now depth }
+pub fn context_at<'a, 'b, 'l>(within: Within<'a, 'b, 'l>) -> Context<'a, 'l>
+    ensures { scope_in result ≡ scope_of within.entry }
 {
+    let base = within.base;
     Context {
         symbols: base.symbols,
         texts: base.texts,
         specials: base.specials,
         functions: base.functions,
-        levels,
-        depth,
+        levels: within.levels,
+        depth: within.depth,
     }
 }
 

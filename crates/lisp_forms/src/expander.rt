@@ -12,7 +12,7 @@ use crate::split::split;
 use crate::top::expansion;
 use form_shapes::expanded::{Expanded, ExpandedNode};
 use form_shapes::levels::Levels;
-use form_shapes::scope::Base;
+use form_shapes::scope::{Base, Within};
 use lisp_base::id::Place;
 use lisp_base::memory::Memory;
 use lisp_base::refusal::{Refusal, Refused, Rejection};
@@ -169,7 +169,13 @@ pub fn expand(
         specials: specials.as_slice(),
         functions: functions.as_slice(),
     };
-    let expansion = expansion(alloc, &base, &levels, program)?;
+    let within = Within {
+        alloc,
+        base: &base,
+        levels: &levels,
+        depth: 0,
+    };
+    let expansion = expansion(within, program)?;
     let nodes = expansion.as_slice();
     if let Some(told) = program_refusal(alloc, nodes)? {
         return Err(Rejection::at(told.refusal, told.place));

@@ -1,7 +1,7 @@
 ghost use Rattle.std.specs.Prelude.{◌≡◌, ◌<◌, ◌^◌, IfOk, Some, length};
 ghost use Rattle.lisp_base.specs.Writing.{Wrote};
 ghost use Rattle.form_shapes.specs.Bindings.{bound_in};
-ghost use Rattle.form_shapes.specs.inside.Contexts.{scope_at};
+ghost use Rattle.form_shapes.specs.inside.Contexts.{scope_of};
 ghost use Rattle.form_shapes.specs.inside.One.{let_variables};
 ghost use Rattle.form_shapes.specs.Scopes.{Scope};
 ghost use Rattle.lisp_forms.specs.Expansion.{parts_in, values_in};
@@ -14,8 +14,8 @@ use crate::expand::{push_all, push_head};
 use crate::nodes::{push_form, push_nil};
 use form_shapes::bindings::{after_declarations, items_first, open_variable, variables_in};
 use form_shapes::expanded::ExpandedNode;
-use form_shapes::levels::{Levels, next};
-use form_shapes::scope::{Base, has};
+use form_shapes::levels::next;
+use form_shapes::scope::{Within, has};
 use form_shapes::single::rest;
 use form_shapes::within::{open_within, opened_within};
 use lisp_base::id::{Place, SymbolId};
@@ -23,89 +23,55 @@ use lisp_base::memory::Memory;
 use lisp_base::writer::Writer;
 use lisp_data::items::{First, Items};
 use lisp_program::form::CoreKind;
-use std::alloc::Global;
 
 /// Writes a `let` with these arguments.
 #[cycle(forms)]
-pub fn push_let(
-    alloc: Global,
-    base: &Base,
-    levels: &Levels,
-    depth: u32,
-    place: Place,
-    arguments: Items,
-    nodes: &mut Writer<ExpandedNode>,
-)
-    ensures { Wrote nodes.old nodes.new (flat_one (let_form (scope_at base.now levels.now depth) place (let_variables arguments.entry) (parts_in (scope_at base.now levels.now depth) place arguments.entry))) }
+pub fn push_let(within: Within, place: Place, arguments: Items, nodes: &mut Writer<ExpandedNode>)
+    ensures { Wrote nodes.old nodes.new (flat_one (let_form (scope_of within.entry) place (let_variables arguments.entry) (parts_in (scope_of within.entry) place arguments.entry))) }
 {
-    let Ok(variables) = variables_in(alloc, &arguments) else {
+    let Ok(variables) = variables_in(within.alloc, &arguments) else {
         return nodes.fill();
     };
-    let Ok(open) = opened_within(alloc, base, levels, depth, variables.as_slice()) else {
+    let Ok(open) = opened_within(within, variables.as_slice()) else {
         return nodes.fill();
     };
-    let body = after_declarations(base.symbols, rest(&arguments, 1));
+    let inner = Within {
+        levels: &open.levels,
+        depth: open.depth,
+        ..within
+    };
+    let body = after_declarations(within.base.symbols, rest(&arguments, 1));
     if variables.is_empty() {
         push_form(CoreKind::Progn, place, body.count(), nodes);
-        return push_all(alloc, base, &open.levels, open.depth, body, nodes);
+        return push_all(inner, body, nodes);
     }
     let bindings = items_first(&arguments);
     push_form(CoreKind::Let, place, bindings.count() + 1, nodes);
-    push_values(alloc, base, levels, depth, bindings, nodes);
-    push_binds(
-        base,
-        levels,
-        depth,
-        place,
-        variables.as_slice(),
-        body.count(),
-        nodes,
-    );
-    push_all(alloc, base, &open.levels, open.depth, body, nodes)
+    push_values(within, bindings, nodes);
+    push_binds(within, place, variables.as_slice(), body.count(), nodes);
+    push_all(inner, body, nodes)
 }
 
 /// Writes the values of these bindings.
 #[cycle(forms)]
-fn push_values(
-    alloc: Global,
-    base: &Base,
-    levels: &Levels,
-    depth: u32,
-    bindings: Items,
-    nodes: &mut Writer<ExpandedNode>,
-)
-    ensures { Wrote nodes.old nodes.new (flat (values_in (scope_at base.now levels.now depth) bindings.entry)) }
+fn push_values(within: Within, bindings: Items, nodes: &mut Writer<ExpandedNode>)
+    ensures { Wrote nodes.old nodes.new (flat (values_in (scope_of within.entry) bindings.entry)) }
 {
     let mut left = bindings;
     while let Some((first, others)) = left.split_first() {
-        push_bound(alloc, base, levels, depth, first, nodes);
+        push_bound(within, first, nodes);
         left = others;
     }
 }
 
 /// Writes the value of a binding.
 #[cycle(forms)]
-fn push_bound(
-    alloc: Global,
-    base: &Base,
-    levels: &Levels,
-    depth: u32,
-    first: First,
-    nodes: &mut Writer<ExpandedNode>,
-)
-    ensures { Wrote nodes.old nodes.new (flat_one (bound_value (scope_at base.now levels.now depth) first.entry)) }
+fn push_bound(within: Within, first: First, nodes: &mut Writer<ExpandedNode>)
+    ensures { Wrote nodes.old nodes.new (flat_one (bound_value (scope_of within.entry) first.entry)) }
 {
     match first {
         First::Leaf(_, place) => push_nil(place, nodes),
-        First::List(place, under) => push_head(
-            alloc,
-            base,
-            levels,
-            depth,
-            place,
-            rest(&under, 1),
-            nodes,
-        ),
+        First::List(place, under) => push_head(within, place, rest(&under, 1), nodes),
     }
 }
 
@@ -122,23 +88,21 @@ pub fn bind_kind(specials: &[SymbolId], depth: u32, variable: SymbolId, above: u
 
 /// Writes the bindings of these variables, one in another, the last with `body` forms under it.
 fn push_binds(
-    base: &Base,
-    levels: &Levels,
-    depth: u32,
+    within: Within,
     place: Place,
     variables: &[SymbolId],
     body: u32,
     nodes: &mut Writer<ExpandedNode>,
 )
     requires { length variables.now < 2 ^ 30 }
-    ensures { Wrote nodes.old nodes.new (bind_nodes (scope_at base.now levels.now depth) place body variables.now) }
+    ensures { Wrote nodes.old nodes.new (bind_nodes (scope_of within.entry) place body variables.now) }
 {
-    let mut number = depth;
+    let mut number = within.depth;
     for (index, variable) in variables.iter().enumerate() {
         let above = (variables.len() - 1 - index) as u32;
-        let kind = bind_kind(base.specials, number, *variable, above);
+        let kind = bind_kind(within.base.specials, number, *variable, above);
         push_form(kind, place, forms_under(above, body), nodes);
-        let Ok(behind) = number_behind(base.specials, number, *variable) else {
+        let Ok(behind) = number_behind(within.base.specials, number, *variable) else {
             return nodes.fill();
         };
         number = behind;
@@ -165,58 +129,54 @@ fn number_behind(specials: &[SymbolId], number: u32, variable: SymbolId) -> Resu
 /// Writes a `let*` with these arguments.
 #[cycle(forms)]
 pub fn push_let_star(
-    alloc: Global,
-    base: &Base,
-    levels: &Levels,
-    depth: u32,
+    within: Within,
     place: Place,
     arguments: Items,
     nodes: &mut Writer<ExpandedNode>,
 )
-    ensures { Wrote nodes.old nodes.new (flat_one (let_star_form (scope_at base.now levels.now depth) place (let_variables arguments.entry) (parts_in (scope_at base.now levels.now depth) place arguments.entry))) }
+    ensures { Wrote nodes.old nodes.new (flat_one (let_star_form (scope_of within.entry) place (let_variables arguments.entry) (parts_in (scope_of within.entry) place arguments.entry))) }
 {
-    let Ok(variables) = variables_in(alloc, &arguments) else {
+    let Ok(variables) = variables_in(within.alloc, &arguments) else {
         return nodes.fill();
     };
-    let Ok(open) = opened_within(alloc, base, levels, depth, variables.as_slice()) else {
+    let Ok(open) = opened_within(within, variables.as_slice()) else {
         return nodes.fill();
     };
-    let body = after_declarations(base.symbols, rest(&arguments, 1));
+    let inner = Within {
+        levels: &open.levels,
+        depth: open.depth,
+        ..within
+    };
+    let body = after_declarations(within.base.symbols, rest(&arguments, 1));
     if variables.is_empty() {
         push_form(CoreKind::Progn, place, body.count(), nodes);
-        return push_all(alloc, base, &open.levels, open.depth, body, nodes);
+        return push_all(inner, body, nodes);
     }
     let bindings = items_first(&arguments);
     push_turns(
-        alloc,
-        base,
-        levels,
-        depth,
+        within,
         place,
         variables.as_slice(),
         bindings,
         body.count(),
         nodes,
     );
-    push_all(alloc, base, &open.levels, open.depth, body, nodes)
+    push_all(inner, body, nodes)
 }
 
 /// Writes what a `let*` of these variables with these bindings has before its body, which has so many forms.
 #[cycle(forms)]
 fn push_turns(
-    alloc: Global,
-    base: &Base,
-    levels: &Levels,
-    depth: u32,
+    within: Within,
     place: Place,
     variables: &[SymbolId],
     bindings: Items,
     body: u32,
     nodes: &mut Writer<ExpandedNode>,
 )
-    ensures { bound_in bindings.entry ≡ Some variables.now → Wrote nodes.old nodes.new (turn_nodes (scope_at base.now levels.now depth) place body bindings.entry) }
+    ensures { bound_in bindings.entry ≡ Some variables.now → Wrote nodes.old nodes.new (turn_nodes (scope_of within.entry) place body bindings.entry) }
 {
-    let Ok(mut open) = open_within(alloc, base, levels, depth) else {
+    let Ok(mut open) = open_within(within) else {
         return nodes.fill();
     };
     let mut left = bindings;
@@ -225,10 +185,15 @@ fn push_turns(
             return;
         };
         push_form(CoreKind::Let, place, 2, nodes);
-        push_bound(alloc, base, &open.levels, open.depth, first, nodes);
-        let kind = bind_kind(base.specials, open.depth, *variable, 0);
+        let inner = Within {
+            levels: &open.levels,
+            depth: open.depth,
+            ..within
+        };
+        push_bound(inner, first, nodes);
+        let kind = bind_kind(within.base.specials, open.depth, *variable, 0);
         push_form(kind, place, turn_parts(&others, body), nodes);
-        if open_variable(base.specials, *variable, &mut open).is_err() {
+        if open_variable(within.base.specials, *variable, &mut open).is_err() {
             return nodes.fill();
         }
         left = others;

@@ -1,6 +1,6 @@
 ghost use Rattle.std.specs.Prelude.{◌≡◌, IfOk};
 ghost use Rattle.lisp_base.specs.Writing.{Wrote};
-ghost use Rattle.form_shapes.specs.inside.Contexts.{scope_at};
+ghost use Rattle.form_shapes.specs.inside.Contexts.{scope_of};
 ghost use Rattle.lisp_forms.specs.Expansion.{forms_in, parts_in};
 ghost use Rattle.lisp_forms.specs.inside.Flat.{flat_one};
 ghost use Rattle.lisp_forms.specs.Rows;
@@ -12,8 +12,8 @@ use crate::rows::push_progn;
 use form_shapes::bindings::{after_declarations, items_first};
 use form_shapes::expanded::{Expanded, ExpandedNode};
 use form_shapes::keywords::{Roles, part_count};
-use form_shapes::levels::{Levels, next};
-use form_shapes::scope::Base;
+use form_shapes::levels::next;
+use form_shapes::scope::Within;
 use form_shapes::single::rest;
 use lisp_base::condition::{Class, Condition};
 use lisp_base::id::{Place, SymbolId};
@@ -23,7 +23,6 @@ use lisp_base::writer::Writer;
 use lisp_data::items::Items;
 use lisp_program::form::CoreKind;
 use lisp_program::function::Service;
-use std::alloc::Global;
 
 /// The numbers of the hidden variables of a lock, and of what its region remembers.
 #[derive(Clone, Copy)]
@@ -82,21 +81,18 @@ fn push_grab(
 /// Writes what a lock does where it has the mutex: this body, with interruptions where they were allowed; and after that its cleanup.
 #[cycle(forms)]
 fn push_locked_body(
-    alloc: Global,
-    base: &Base,
-    levels: &Levels,
-    depth: u32,
+    within: Within,
     lock: &Lock,
     place: Place,
     body: Items,
     nodes: &mut Writer<ExpandedNode>,
 )
-    ensures { Wrote nodes.old nodes.new (locked_nodes lock.now place (forms_in (scope_at base.now levels.now depth) body.entry)) }
+    ensures { Wrote nodes.old nodes.new (locked_nodes lock.now place (forms_in (scope_of within.entry) body.entry)) }
 {
     push_form(CoreKind::Progn, place, 1, nodes);
     push_form(CoreKind::AllowWithInterrupts(lock.region), place, 1, nodes);
     push_form(CoreKind::WithInterrupts, place, body.count(), nodes);
-    push_all(alloc, base, levels, depth, body, nodes);
+    push_all(within, body, nodes);
     push_nil(place, nodes);
     push_release(lock, place, nodes)
 }
@@ -123,72 +119,53 @@ fn push_release(lock: &Lock, place: Place, nodes: &mut Writer<ExpandedNode>)
 /// Writes a `with-mutex` with these arguments, of which these are written.
 #[cycle(forms)]
 pub fn push_mutex(
-    alloc: Global,
-    base: &Base,
-    levels: &Levels,
-    depth: u32,
+    within: Within,
     waitp: bool,
     timeout: bool,
     place: Place,
     arguments: Items,
     nodes: &mut Writer<ExpandedNode>,
 )
-    ensures { Wrote nodes.old nodes.new (flat_one (Rows.mutex_form (scope_at base.now levels.now depth) place waitp timeout (parts_in (scope_at base.now levels.now depth) place arguments.entry))) }
+    ensures { Wrote nodes.old nodes.new (flat_one (Rows.mutex_form (scope_of within.entry) place waitp timeout (parts_in (scope_of within.entry) place arguments.entry))) }
 {
-    let Ok(lock) = lock_at(depth) else {
+    let Ok(lock) = lock_at(within.depth) else {
         return nodes.fill();
     };
     let items = items_first(&arguments);
     let operands = items_first(&arguments);
     let count = part_count(Roles::Values(1), operands.count()) + 1;
     push_form(CoreKind::Let, place, 3, nodes);
-    push_head(alloc, base, levels, depth, place, items, nodes);
+    push_head(within, place, items, nodes);
     push_region(&lock, place, nodes);
     push_grab(&lock, waitp, timeout, count, place, nodes);
-    push_by_roles(
-        alloc,
-        base,
-        levels,
-        lock.inside,
-        Roles::Values(1),
-        operands,
-        nodes,
-    );
-    let body = after_declarations(base.symbols, rest(&arguments, 1));
-    push_locked_body(alloc, base, levels, lock.inside, &lock, place, body, nodes)
+    let inner = Within {
+        depth: lock.inside,
+        ..within
+    };
+    push_by_roles(inner, Roles::Values(1), operands, nodes);
+    let body = after_declarations(within.base.symbols, rest(&arguments, 1));
+    push_locked_body(inner, &lock, place, body, nodes)
 }
 
 /// Writes a `with-recursive-lock` with these arguments.
 #[cycle(forms)]
-pub fn push_lock(
-    alloc: Global,
-    base: &Base,
-    levels: &Levels,
-    depth: u32,
-    place: Place,
-    arguments: Items,
-    nodes: &mut Writer<ExpandedNode>,
-)
-    ensures { Wrote nodes.old nodes.new (flat_one (Rows.lock_form (scope_at base.now levels.now depth) place (parts_in (scope_at base.now levels.now depth) place arguments.entry))) }
+pub fn push_lock(within: Within, place: Place, arguments: Items, nodes: &mut Writer<ExpandedNode>)
+    ensures { Wrote nodes.old nodes.new (flat_one (Rows.lock_form (scope_of within.entry) place (parts_in (scope_of within.entry) place arguments.entry))) }
 {
-    let Ok(lock) = lock_at(depth) else {
+    let Ok(lock) = lock_at(within.depth) else {
         return nodes.fill();
     };
     push_form(CoreKind::Let, place, 3, nodes);
-    push_head(
-        alloc,
-        base,
-        levels,
-        depth,
-        place,
-        items_first(&arguments),
-        nodes,
-    );
+    push_head(within, place, items_first(&arguments), nodes);
     push_region(&lock, place, nodes);
     push_held(&lock, place, nodes);
     push_grab(&lock, false, false, 1, place, nodes);
-    let body = after_declarations(base.symbols, rest(&arguments, 1));
-    push_locked_body(alloc, base, levels, lock.inside, &lock, place, body, nodes)
+    let body = after_declarations(within.base.symbols, rest(&arguments, 1));
+    let inner = Within {
+        depth: lock.inside,
+        ..within
+    };
+    push_locked_body(inner, &lock, place, body, nodes)
 }
 
 /// Writes whether the thread has the mutex already, before what grabs it where it has not.
@@ -224,17 +201,14 @@ fn push_timer(place: Place, nodes: &mut Writer<ExpandedNode>)
 /// Writes a `with-timeout` with these arguments.
 #[cycle(forms)]
 pub fn push_timeout(
-    alloc: Global,
-    base: &Base,
-    levels: &Levels,
-    depth: u32,
+    within: Within,
     place: Place,
     arguments: Items,
     nodes: &mut Writer<ExpandedNode>,
 )
-    ensures { Wrote nodes.old nodes.new (flat_one (Rows.timeout_form (scope_at base.now levels.now depth) place (parts_in (scope_at base.now levels.now depth) place arguments.entry))) }
+    ensures { Wrote nodes.old nodes.new (flat_one (Rows.timeout_form (scope_of within.entry) place (parts_in (scope_of within.entry) place arguments.entry))) }
 {
-    let timer = depth;
+    let timer = within.depth;
     let Ok(inner) = next(timer) else {
         return nodes.fill();
     };
@@ -248,9 +222,13 @@ pub fn push_timeout(
     push_form(CoreKind::BindLocal(timer, 0), place, 2, nodes);
     push_form(CoreKind::Serve(service), place, 2, nodes);
     push_local(timer, place, nodes);
-    push_head(alloc, base, levels, inner, place, arguments, nodes);
+    let deeper = Within {
+        depth: inner,
+        ..within
+    };
+    push_head(deeper, place, arguments, nodes);
     push_form(CoreKind::UnwindProtect, place, 2, nodes);
-    push_progn(alloc, base, levels, inner, place, body, nodes);
+    push_progn(deeper, place, body, nodes);
     push_form(CoreKind::Serve(Service::UnscheduleTimer), place, 1, nodes);
     push_local(timer, place, nodes)
 }

@@ -1,7 +1,7 @@
 ghost use Rattle.std.specs.Prelude.{◌≡◌, ℕ};
 ghost use Rattle.lisp_base.specs.Forest.{count_of};
 ghost use Rattle.lisp_base.specs.Writing.{Wrote};
-ghost use Rattle.form_shapes.specs.inside.Contexts.{scope_at};
+ghost use Rattle.form_shapes.specs.inside.Contexts.{scope_of};
 ghost use Rattle.form_shapes.specs.inside.One.{place_by as place_of, symbol_by as symbol_of};
 ghost use Rattle.form_shapes.specs.Scopes.{Scope, target_in};
 ghost use Rattle.lisp_forms.specs.Expansion.{conds_in, forms_in, ors_in, pairs_in, parts_in};
@@ -18,8 +18,8 @@ use crate::nodes::{
 use form_shapes::bindings::after_declarations;
 use form_shapes::expanded::{Expanded, ExpandedNode};
 use form_shapes::keywords::{Roles, part_count};
-use form_shapes::levels::{Levels, next};
-use form_shapes::scope::{Base, Target, set_kind};
+use form_shapes::levels::next;
+use form_shapes::scope::{Target, Within, set_kind};
 use form_shapes::single::{is_list, place_by, rest};
 use form_shapes::within::target_within;
 use lisp_base::condition::Class;
@@ -30,103 +30,67 @@ use lisp_base::writer::Writer;
 use lisp_data::items::{First, Items};
 use lisp_program::form::CoreKind;
 use lisp_program::function::{Primitive, Service};
-use std::alloc::Global;
 
 /// Writes a form of this kind with these under it, by what they are for, and NIL after them.
 #[cycle(forms)]
 pub fn push_over_nil(
-    alloc: Global,
-    base: &Base,
-    levels: &Levels,
-    depth: u32,
+    within: Within,
     kind: CoreKind,
     roles: Roles,
     place: Place,
     arguments: Items,
     nodes: &mut Writer<ExpandedNode>,
 )
-    ensures { Wrote nodes.old nodes.new (flat_one (Rows.over_nil_form (scope_at base.now levels.now depth) place kind roles (parts_in (scope_at base.now levels.now depth) place arguments.entry))) }
+    ensures { Wrote nodes.old nodes.new (flat_one (Rows.over_nil_form (scope_of within.entry) place kind roles (parts_in (scope_of within.entry) place arguments.entry))) }
 {
     let parts = part_count(roles, arguments.count()) + 1;
     push_form(kind, place, parts, nodes);
-    push_by_roles(alloc, base, levels, depth, roles, arguments, nodes);
+    push_by_roles(within, roles, arguments, nodes);
     push_nil(place, nodes)
 }
 
 /// Writes these as one form.
 #[cycle(forms)]
-pub fn push_progn(
-    alloc: Global,
-    base: &Base,
-    levels: &Levels,
-    depth: u32,
-    place: Place,
-    items: Items,
-    nodes: &mut Writer<ExpandedNode>,
-)
-    ensures { Wrote nodes.old nodes.new (flat_one (progn_form place (forms_in (scope_at base.now levels.now depth) items.entry))) }
+pub fn push_progn(within: Within, place: Place, items: Items, nodes: &mut Writer<ExpandedNode>)
+    ensures { Wrote nodes.old nodes.new (flat_one (progn_form place (forms_in (scope_of within.entry) items.entry))) }
 {
     push_form(CoreKind::Progn, place, items.count(), nodes);
-    push_all(alloc, base, levels, depth, items, nodes)
+    push_all(within, items, nodes)
 }
 
 /// Writes a `when` with these arguments.
 #[cycle(forms)]
-pub fn push_when(
-    alloc: Global,
-    base: &Base,
-    levels: &Levels,
-    depth: u32,
-    place: Place,
-    arguments: Items,
-    nodes: &mut Writer<ExpandedNode>,
-)
-    ensures { Wrote nodes.old nodes.new (flat_one (Rows.when_form (scope_at base.now levels.now depth) place (parts_in (scope_at base.now levels.now depth) place arguments.entry))) }
+pub fn push_when(within: Within, place: Place, arguments: Items, nodes: &mut Writer<ExpandedNode>)
+    ensures { Wrote nodes.old nodes.new (flat_one (Rows.when_form (scope_of within.entry) place (parts_in (scope_of within.entry) place arguments.entry))) }
 {
     let body = rest(&arguments, 1);
     push_form(CoreKind::If, place, 3, nodes);
-    push_head(alloc, base, levels, depth, place, arguments, nodes);
-    push_progn(alloc, base, levels, depth, place, body, nodes);
+    push_head(within, place, arguments, nodes);
+    push_progn(within, place, body, nodes);
     push_nil(place, nodes)
 }
 
 /// Writes an `unless` with these arguments.
 #[cycle(forms)]
-pub fn push_unless(
-    alloc: Global,
-    base: &Base,
-    levels: &Levels,
-    depth: u32,
-    place: Place,
-    arguments: Items,
-    nodes: &mut Writer<ExpandedNode>,
-)
-    ensures { Wrote nodes.old nodes.new (flat_one (Rows.unless_form (scope_at base.now levels.now depth) place (parts_in (scope_at base.now levels.now depth) place arguments.entry))) }
+pub fn push_unless(within: Within, place: Place, arguments: Items, nodes: &mut Writer<ExpandedNode>)
+    ensures { Wrote nodes.old nodes.new (flat_one (Rows.unless_form (scope_of within.entry) place (parts_in (scope_of within.entry) place arguments.entry))) }
 {
     let body = rest(&arguments, 1);
     push_form(CoreKind::If, place, 3, nodes);
-    push_head(alloc, base, levels, depth, place, arguments, nodes);
+    push_head(within, place, arguments, nodes);
     push_nil(place, nodes);
-    push_progn(alloc, base, levels, depth, place, body, nodes)
+    push_progn(within, place, body, nodes)
 }
 
 /// Writes what `or` and `cond` have in common: one as the value of a hidden variable, which is given where it is not
 /// NIL. After it comes what is done otherwise.
 #[cycle(forms)]
-fn push_either(
-    alloc: Global,
-    base: &Base,
-    levels: &Levels,
-    depth: u32,
-    place: Place,
-    first: First,
-    nodes: &mut Writer<ExpandedNode>,
-)
-    ensures { Wrote nodes.old nodes.new (either_nodes (scope_at base.now levels.now depth).depth place (first_form (scope_at base.now levels.now depth) first.entry)) }
+fn push_either(within: Within, place: Place, first: First, nodes: &mut Writer<ExpandedNode>)
+    ensures { Wrote nodes.old nodes.new (either_nodes (scope_of within.entry).depth place (first_form (scope_of within.entry) first.entry)) }
 {
-    let number = depth;
+    let number = within.depth;
     push_form(CoreKind::Let, place, 2, nodes);
-    push_first(alloc, base, levels, depth, first, nodes);
+    push_first(within, first, nodes);
     push_form(CoreKind::BindLocal(number, 0), place, 1, nodes);
     push_form(CoreKind::If, place, 3, nodes);
     push_local(number, place, nodes);
@@ -135,24 +99,20 @@ fn push_either(
 
 /// Writes an `or` of these.
 #[cycle(forms)]
-pub fn push_or(
-    alloc: Global,
-    base: &Base,
-    levels: &Levels,
-    depth: u32,
-    place: Place,
-    arguments: Items,
-    nodes: &mut Writer<ExpandedNode>,
-)
-    ensures { Wrote nodes.old nodes.new (flat_one (ors_in (scope_at base.now levels.now depth) place arguments.entry)) }
+pub fn push_or(within: Within, place: Place, arguments: Items, nodes: &mut Writer<ExpandedNode>)
+    ensures { Wrote nodes.old nodes.new (flat_one (ors_in (scope_of within.entry) place arguments.entry)) }
 {
-    let mut open = depth;
+    let mut open = within.depth;
     let mut left = arguments;
     while let Some((first, others)) = left.split_first() {
+        let inner = Within {
+            depth: open,
+            ..within
+        };
         if others.count() == 0 {
-            return push_first(alloc, base, levels, open, first, nodes);
+            return push_first(inner, first, nodes);
         }
-        push_either(alloc, base, levels, open, place, first, nodes);
+        push_either(inner, place, first, nodes);
         let Ok(behind) = next(open) else {
             return nodes.fill();
         };
@@ -164,25 +124,21 @@ pub fn push_or(
 
 /// Writes a `cond` of these clauses.
 #[cycle(forms)]
-pub fn push_cond(
-    alloc: Global,
-    base: &Base,
-    levels: &Levels,
-    depth: u32,
-    place: Place,
-    clauses: Items,
-    nodes: &mut Writer<ExpandedNode>,
-)
-    ensures { Wrote nodes.old nodes.new (flat_one (conds_in (scope_at base.now levels.now depth) place clauses.entry)) }
+pub fn push_cond(within: Within, place: Place, clauses: Items, nodes: &mut Writer<ExpandedNode>)
+    ensures { Wrote nodes.old nodes.new (flat_one (conds_in (scope_of within.entry) place clauses.entry)) }
 {
-    let mut open = depth;
+    let mut open = within.depth;
     let mut left = clauses;
     while let Some((first, others)) = left.split_first() {
         match first {
             First::Leaf(_, _) => (),
             First::List(_, under) => {
                 let is_test = under.count() == 1;
-                push_clause(alloc, base, levels, open, place, under, nodes);
+                let inner = Within {
+                    depth: open,
+                    ..within
+                };
+                push_clause(inner, place, under, nodes);
                 if is_test {
                     let Ok(behind) = next(open) else {
                         return nodes.fill();
@@ -198,40 +154,24 @@ pub fn push_cond(
 
 /// Writes what a clause of `cond` with these adds before the other clauses.
 #[cycle(forms)]
-fn push_clause(
-    alloc: Global,
-    base: &Base,
-    levels: &Levels,
-    depth: u32,
-    place: Place,
-    under: Items,
-    nodes: &mut Writer<ExpandedNode>,
-)
-    ensures { Wrote nodes.old nodes.new (clause_nodes (scope_at base.now levels.now depth).depth place (forms_in (scope_at base.now levels.now depth) under.entry)) }
+fn push_clause(within: Within, place: Place, under: Items, nodes: &mut Writer<ExpandedNode>)
+    ensures { Wrote nodes.old nodes.new (clause_nodes (scope_of within.entry).depth place (forms_in (scope_of within.entry) under.entry)) }
 {
     let Some((first, body)) = under.split_first() else {
         return;
     };
     if body.count() == 0 {
-        return push_either(alloc, base, levels, depth, place, first, nodes);
+        return push_either(within, place, first, nodes);
     }
     push_form(CoreKind::If, place, 3, nodes);
-    push_first(alloc, base, levels, depth, first, nodes);
-    push_progn(alloc, base, levels, depth, place, body, nodes)
+    push_first(within, first, nodes);
+    push_progn(within, place, body, nodes)
 }
 
 /// Writes an `and` of these.
 #[cycle(forms)]
-pub fn push_and(
-    alloc: Global,
-    base: &Base,
-    levels: &Levels,
-    depth: u32,
-    place: Place,
-    arguments: Items,
-    nodes: &mut Writer<ExpandedNode>,
-)
-    ensures { Wrote nodes.old nodes.new (flat_one (Rows.and_form (scope_at base.now levels.now depth) place (parts_in (scope_at base.now levels.now depth) place arguments.entry))) }
+pub fn push_and(within: Within, place: Place, arguments: Items, nodes: &mut Writer<ExpandedNode>)
+    ensures { Wrote nodes.old nodes.new (flat_one (Rows.and_form (scope_of within.entry) place (parts_in (scope_of within.entry) place arguments.entry))) }
 {
     if arguments.count() == 0 {
         return push_true(place, nodes);
@@ -242,7 +182,7 @@ pub fn push_and(
         if others.count() > 0 {
             push_form(CoreKind::If, place, 3, nodes);
         }
-        push_first(alloc, base, levels, depth, first, nodes);
+        push_first(within, first, nodes);
         left = others;
     }
     push_forms(ifs, &CoreKind::Constant(Value::nil()), place, 0, nodes)
@@ -250,46 +190,34 @@ pub fn push_and(
 
 /// Writes a `prog1` with these arguments.
 #[cycle(forms)]
-pub fn push_prog1(
-    alloc: Global,
-    base: &Base,
-    levels: &Levels,
-    depth: u32,
-    place: Place,
-    arguments: Items,
-    nodes: &mut Writer<ExpandedNode>,
-)
-    ensures { Wrote nodes.old nodes.new (flat_one (Rows.prog1_form (scope_at base.now levels.now depth) place (parts_in (scope_at base.now levels.now depth) place arguments.entry))) }
+pub fn push_prog1(within: Within, place: Place, arguments: Items, nodes: &mut Writer<ExpandedNode>)
+    ensures { Wrote nodes.old nodes.new (flat_one (Rows.prog1_form (scope_of within.entry) place (parts_in (scope_of within.entry) place arguments.entry))) }
 {
-    let number = depth;
-    let Ok(inner) = next(depth) else {
+    let number = within.depth;
+    let Ok(inner) = next(within.depth) else {
         return nodes.fill();
     };
-    let body = after_declarations(base.symbols, rest(&arguments, 1));
+    let body = after_declarations(within.base.symbols, rest(&arguments, 1));
     push_form(CoreKind::Let, place, 2, nodes);
-    push_head(alloc, base, levels, depth, place, arguments, nodes);
+    push_head(within, place, arguments, nodes);
     push_form(
         CoreKind::BindLocal(number, 0),
         place,
         body.count() + 1,
         nodes,
     );
-    push_all(alloc, base, levels, inner, body, nodes);
+    let deeper = Within {
+        depth: inner,
+        ..within
+    };
+    push_all(deeper, body, nodes);
     push_local(number, place, nodes)
 }
 
 /// Writes a `setq` of these pairs.
 #[cycle(forms)]
-pub fn push_setq(
-    alloc: Global,
-    base: &Base,
-    levels: &Levels,
-    depth: u32,
-    place: Place,
-    arguments: Items,
-    nodes: &mut Writer<ExpandedNode>,
-)
-    ensures { Wrote nodes.old nodes.new (flat_one (Rows.setq_form (scope_at base.now levels.now depth) place (parts_in (scope_at base.now levels.now depth) place arguments.entry))) }
+pub fn push_setq(within: Within, place: Place, arguments: Items, nodes: &mut Writer<ExpandedNode>)
+    ensures { Wrote nodes.old nodes.new (flat_one (Rows.setq_form (scope_of within.entry) place (parts_in (scope_of within.entry) place arguments.entry))) }
 {
     let count = count_pairs(&arguments);
     if count == 0 {
@@ -298,7 +226,7 @@ pub fn push_setq(
     if count > 1 {
         push_form(CoreKind::Progn, place, count, nodes);
     }
-    push_pairs(alloc, base, levels, depth, place, arguments, nodes)
+    push_pairs(within, place, arguments, nodes)
 }
 
 /// How many pairs these are.
@@ -322,16 +250,8 @@ fn count_pairs(items: &Items) -> u32
 
 /// Writes the pairs of a `setq`.
 #[cycle(forms)]
-fn push_pairs(
-    alloc: Global,
-    base: &Base,
-    levels: &Levels,
-    depth: u32,
-    place: Place,
-    items: Items,
-    nodes: &mut Writer<ExpandedNode>,
-)
-    ensures { Wrote nodes.old nodes.new (flat (pairs_in (scope_at base.now levels.now depth) place items.entry)) }
+fn push_pairs(within: Within, place: Place, items: Items, nodes: &mut Writer<ExpandedNode>)
+    ensures { Wrote nodes.old nodes.new (flat (pairs_in (scope_of within.entry) place items.entry)) }
 {
     let mut left = items;
     while let Some((first, others)) = left.split_first() {
@@ -341,7 +261,7 @@ fn push_pairs(
         let Some((value, behind)) = others.split_first() else {
             return;
         };
-        push_pair(alloc, base, levels, depth, place, &first, value, nodes);
+        push_pair(within, place, &first, value, nodes);
         left = behind;
     }
 }
@@ -349,18 +269,15 @@ fn push_pairs(
 /// Writes a pair of a `setq`.
 #[cycle(forms)]
 fn push_pair(
-    alloc: Global,
-    base: &Base,
-    levels: &Levels,
-    depth: u32,
+    within: Within,
     place: Place,
     variable: &First,
     value: First,
     nodes: &mut Writer<ExpandedNode>,
 )
-    ensures { Wrote nodes.old nodes.new (flat_one (Rows.set_form place (target_in (scope_at base.now levels.now depth) (symbol_of variable.now)) (place_of variable.now) (first_form (scope_at base.now levels.now depth) value.entry))) }
+    ensures { Wrote nodes.old nodes.new (flat_one (Rows.set_form place (target_in (scope_of within.entry) (symbol_of variable.now)) (place_of variable.now) (first_form (scope_of within.entry) value.entry))) }
 {
-    match target_within(base, levels, depth, variable) {
+    match target_within(within, variable) {
         None => push_node(
             Expanded::Refused(Refusal::UnknownVariable),
             place_by(variable),
@@ -369,7 +286,7 @@ fn push_pair(
         ),
         Some(target) => {
             push_form(set_kind(&target), place, 1, nodes);
-            push_first(alloc, base, levels, depth, value, nodes)
+            push_first(within, value, nodes)
         }
     }
 }
@@ -377,41 +294,35 @@ fn push_pair(
 /// Writes an `incf` or `decf` with these arguments.
 #[cycle(forms)]
 pub fn push_change(
-    alloc: Global,
-    base: &Base,
-    levels: &Levels,
-    depth: u32,
+    within: Within,
     target: Target,
     function: Primitive,
     place: Place,
     arguments: Items,
     nodes: &mut Writer<ExpandedNode>,
 )
-    ensures { Wrote nodes.old nodes.new (flat_one (Rows.change_form (scope_at base.now levels.now depth) place target function (parts_in (scope_at base.now levels.now depth) place arguments.entry))) }
+    ensures { Wrote nodes.old nodes.new (flat_one (Rows.change_form (scope_of within.entry) place target function (parts_in (scope_of within.entry) place arguments.entry))) }
 {
     let amount = rest(&arguments, 1);
     push_form(set_kind(&target), place, 1, nodes);
     push_form(CoreKind::Apply(function), place, 2, nodes);
-    push_head(alloc, base, levels, depth, place, arguments, nodes);
+    push_head(within, place, arguments, nodes);
     match amount.split_first() {
         None => push_number(1, place, nodes),
-        Some((first, _)) => push_first(alloc, base, levels, depth, first, nodes),
+        Some((first, _)) => push_first(within, first, nodes),
     }
 }
 
 /// Writes a function of two that is folded over these.
 #[cycle(forms)]
 pub fn push_fold(
-    alloc: Global,
-    base: &Base,
-    levels: &Levels,
-    depth: u32,
+    within: Within,
     function: Primitive,
     place: Place,
     arguments: Items,
     nodes: &mut Writer<ExpandedNode>,
 )
-    ensures { Wrote nodes.old nodes.new (flat_one (Rows.fold_form (scope_at base.now levels.now depth) place function (parts_in (scope_at base.now levels.now depth) place arguments.entry))) }
+    ensures { Wrote nodes.old nodes.new (flat_one (Rows.fold_form (scope_of within.entry) place function (parts_in (scope_of within.entry) place arguments.entry))) }
 {
     let count = arguments.count();
     if count == 0 {
@@ -420,29 +331,26 @@ pub fn push_fold(
     if count == 1 {
         push_form(CoreKind::Apply(function), place, 2, nodes);
         push_number(unit_of(function), place, nodes);
-        return push_all(alloc, base, levels, depth, arguments, nodes);
+        return push_all(within, arguments, nodes);
     }
     push_forms(count - 1, &CoreKind::Apply(function), place, 2, nodes);
-    push_all(alloc, base, levels, depth, arguments, nodes)
+    push_all(within, arguments, nodes)
 }
 
 /// Writes a function of the first of these twice.
 #[cycle(forms)]
 pub fn push_twice(
-    alloc: Global,
-    base: &Base,
-    levels: &Levels,
-    depth: u32,
+    within: Within,
     function: Primitive,
     place: Place,
     arguments: Items,
     nodes: &mut Writer<ExpandedNode>,
 )
-    ensures { Wrote nodes.old nodes.new (flat_one (Rows.twice_form (scope_at base.now levels.now depth) place function (parts_in (scope_at base.now levels.now depth) place arguments.entry))) }
+    ensures { Wrote nodes.old nodes.new (flat_one (Rows.twice_form (scope_of within.entry) place function (parts_in (scope_of within.entry) place arguments.entry))) }
 {
-    let number = depth;
+    let number = within.depth;
     push_form(CoreKind::Let, place, 2, nodes);
-    push_head(alloc, base, levels, depth, place, arguments, nodes);
+    push_head(within, place, arguments, nodes);
     push_form(CoreKind::BindLocal(number, 0), place, 1, nodes);
     push_form(CoreKind::Apply(function), place, 2, nodes);
     push_local(number, place, nodes);
@@ -451,19 +359,11 @@ pub fn push_twice(
 
 /// Writes an `ignore-errors` of these.
 #[cycle(forms)]
-pub fn push_ignore(
-    alloc: Global,
-    base: &Base,
-    levels: &Levels,
-    depth: u32,
-    place: Place,
-    arguments: Items,
-    nodes: &mut Writer<ExpandedNode>,
-)
-    ensures { Wrote nodes.old nodes.new (flat_one (Rows.ignore_form (scope_at base.now levels.now depth) place (parts_in (scope_at base.now levels.now depth) place arguments.entry))) }
+pub fn push_ignore(within: Within, place: Place, arguments: Items, nodes: &mut Writer<ExpandedNode>)
+    ensures { Wrote nodes.old nodes.new (flat_one (Rows.ignore_form (scope_of within.entry) place (parts_in (scope_of within.entry) place arguments.entry))) }
 {
     push_form(CoreKind::HandlerCase, place, 2, nodes);
-    push_progn(alloc, base, levels, depth, place, arguments, nodes);
+    push_progn(within, place, arguments, nodes);
     push_form(CoreKind::Clause(Class::Error), place, 1, nodes);
     push_nil(place, nodes)
 }
@@ -471,18 +371,15 @@ pub fn push_ignore(
 /// Writes a `terminate-thread` of the first of these.
 #[cycle(forms)]
 pub fn push_terminate(
-    alloc: Global,
-    base: &Base,
-    levels: &Levels,
-    depth: u32,
+    within: Within,
     place: Place,
     arguments: Items,
     nodes: &mut Writer<ExpandedNode>,
 )
-    ensures { Wrote nodes.old nodes.new (flat_one (Rows.terminate_form (scope_at base.now levels.now depth) place (parts_in (scope_at base.now levels.now depth) place arguments.entry))) }
+    ensures { Wrote nodes.old nodes.new (flat_one (Rows.terminate_form (scope_of within.entry) place (parts_in (scope_of within.entry) place arguments.entry))) }
 {
     push_form(CoreKind::Serve(Service::InterruptThread), place, 2, nodes);
-    push_head(alloc, base, levels, depth, place, arguments, nodes);
+    push_head(within, place, arguments, nodes);
     push_form(
         CoreKind::Function(FunctionName::AbortThread),
         place,

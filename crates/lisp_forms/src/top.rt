@@ -1,7 +1,7 @@
 ghost use Rattle.std.specs.Prelude.{◌≡◌, [], length, IfOk, OnOk};
 ghost use Rattle.lisp_base.specs.Writing.{Wrote};
 ghost use Rattle.lisp_data.specs.Data.{Data, count_of};
-ghost use Rattle.form_shapes.specs.inside.Contexts.{scope_at};
+ghost use Rattle.form_shapes.specs.inside.Contexts.{scope_of};
 ghost use Rattle.form_shapes.specs.Scopes.{first_symbol as first_symbol_in};
 ghost use Rattle.form_shapes.specs.Shapes.{shape_of};
 ghost use Rattle.lisp_forms.specs.Blocks;
@@ -21,9 +21,9 @@ use crate::special::{push_specials, special_parts};
 use form_shapes::bindings::{function_body_of, list_fault, parameters_in, parameters_of};
 use form_shapes::expanded::{Expanded, ExpandedNode};
 use form_shapes::keywords::Roles;
-use form_shapes::levels::{Level, Levels};
+use form_shapes::levels::Level;
 use form_shapes::operator::Operator;
-use form_shapes::scope::{Base, first_symbol, has};
+use form_shapes::scope::{Within, first_symbol, has};
 use form_shapes::shape::Shape;
 use form_shapes::within::{leaf_within, received_within, shape_within};
 use lisp_base::id::{Place, SymbolId};
@@ -121,133 +121,115 @@ fn is_ignored(symbols: &Symbols, under: &Items) -> bool
 }
 
 /// What a list of these is that defines nothing at top level.
-fn other_shape(
-    alloc: Global,
-    base: &Base,
-    levels: &Levels,
-    place: Place,
-    under: &Items,
-) -> Result<Shape, Memory>
-    ensures { IfOk result (λ shape. shape ≡ Program.other_shape (Program.built_in base.now.symbols.now (first_symbol_in under.now)) (shape_of (scope_at base.now levels.now 0) place under.now)) }
+fn other_shape(within: Within, place: Place, under: &Items) -> Result<Shape, Memory>
+    ensures { IfOk result (λ shape. shape ≡ Program.other_shape (Program.built_in within.entry.base.now.symbols.now (first_symbol_in under.now)) (shape_of (scope_of within.entry) place under.now)) }
 {
-    if is_ignored(base.symbols, under) {
+    if is_ignored(within.base.symbols, under) {
         return Ok(Shape::Leaf(Expanded::Form(CoreKind::Constant(Value::nil()))));
     }
-    shape_within(alloc, base, levels, 0, place, under)
+    shape_within(within, place, under)
 }
 
 /// What a list of these at top level is.
-fn top_shape(
-    alloc: Global,
-    base: &Base,
-    levels: &Levels,
-    known: &Known,
-    place: Place,
-    under: &Items,
-) -> Result<Shape, Memory>
-    ensures { IfOk result (λ shape. shape ≡ Program.top_shape (scope_at base.now levels.now 0) (known_as known.now) place (Program.definition_in base.now.symbols.now under.now) (Program.function_in base.now.symbols.now under.now) under.now) }
+fn top_shape(within: Within, known: &Known, place: Place, under: &Items) -> Result<Shape, Memory>
+    ensures { IfOk result (λ shape. shape ≡ Program.top_shape (scope_of within.entry) (known_as known.now) place (Program.definition_in within.entry.base.now.symbols.now under.now) (Program.function_in within.entry.base.now.symbols.now under.now) under.now) }
 {
-    let symbols = base.symbols;
+    let symbols = within.base.symbols;
     if let Some(symbol) = definition_in(symbols, under) {
         let by_defvar = is_defvar(symbols, under);
         let count = under.skip(1).count();
         let known = known.variables.as_slice();
         return Ok(variable_shape(known, place, symbol, by_defvar, count));
     }
-    match function_in(alloc, symbols, under)? {
+    match function_in(within.alloc, symbols, under)? {
         Some(name) => {
-            let parameters = parameters_of(alloc, &under.skip(2))?;
+            let parameters = parameters_of(within.alloc, &under.skip(2))?;
             let fault = list_fault(symbols, &parameters);
             let known = known.functions.as_slice();
             Ok(defun_shape(symbols, known, place, name, fault))
         }
-        None => other_shape(alloc, base, levels, place, under),
+        None => other_shape(within, place, under),
     }
 }
 
 /// Writes a `defun` of this name with these arguments.
 fn push_defun(
-    alloc: Global,
-    base: &Base,
-    levels: &Levels,
+    within: Within,
     name: SymbolId,
     place: Place,
     arguments: Items,
     nodes: &mut Writer<ExpandedNode>,
 )
-    ensures { Wrote nodes.old nodes.new (flat_one (Program.top_list_form (scope_at base.now levels.now 0) place (Shape.Defun name) arguments.entry)) }
+    ensures { Wrote nodes.old nodes.new (flat_one (Program.top_list_form (scope_of within.entry) place (Shape.Defun name) arguments.entry)) }
 {
-    let Ok(parameters) = parameters_in(alloc, &arguments.skip(1)) else {
+    let Ok(parameters) = parameters_in(within.alloc, &arguments.skip(1)) else {
         return nodes.fill();
     };
     let bound = parameters.as_slice();
-    let Ok(mut open) = received_within(alloc, base, levels, 0, bound) else {
+    let Ok(mut open) = received_within(within, bound) else {
         return nodes.fill();
     };
     let count = open.depth;
     if open.open(Level::Block(name)).is_err() {
         return nodes.fill();
     }
-    let body = function_body_of(base.symbols, arguments.skip(2));
+    let body = function_body_of(within.base.symbols, arguments.skip(2));
     let forms = body.count();
-    let mut written = Writer::new(alloc);
-    push_all(alloc, base, &open.levels, open.depth, body, &mut written);
+    let mut written = Writer::new(within.alloc);
+    push_all(
+        Within {
+            levels: &open.levels,
+            depth: open.depth,
+            ..within
+        },
+        body,
+        &mut written,
+    );
     let Ok(written) = written.finish() else {
         return nodes.fill();
     };
     let blocked = blocked_parts(count, forms, written.as_slice());
-    let parts = special_parts(base.specials, bound, blocked);
+    let parts = special_parts(within.base.specials, bound, blocked);
     push_node(Expanded::Defun(name, count), place, parts, nodes);
-    push_specials(base.specials, place, bound, blocked, nodes);
-    push_blocked(alloc, count, place, forms, written, nodes)
+    push_specials(within.base.specials, place, bound, blocked, nodes);
+    push_blocked(within.alloc, count, place, forms, written, nodes)
 }
 
 /// Writes a list of this shape with these arguments at top level.
 fn push_top_shaped(
-    alloc: Global,
-    base: &Base,
-    levels: &Levels,
+    within: Within,
     shape: Shape,
     place: Place,
     arguments: Items,
     nodes: &mut Writer<ExpandedNode>,
 )
-    ensures { Wrote nodes.old nodes.new (flat_one (Program.top_list_form (scope_at base.now levels.now 0) place shape arguments.entry)) }
+    ensures { Wrote nodes.old nodes.new (flat_one (Program.top_list_form (scope_of within.entry) place shape arguments.entry)) }
 {
     match shape {
-        Shape::Defun(name) => push_defun(alloc, base, levels, name, place, arguments, nodes),
-        other => push_shaped(alloc, base, levels, 0, other, place, arguments, nodes),
+        Shape::Defun(name) => push_defun(within, name, place, arguments, nodes),
+        other => push_shaped(within, other, place, arguments, nodes),
     }
 }
 
 /// Writes a list of these at top level.
 fn push_top_list(
-    alloc: Global,
-    base: &Base,
-    levels: &Levels,
+    within: Within,
     known: &Known,
     place: Place,
     under: Items,
     nodes: &mut Writer<ExpandedNode>,
 )
-    ensures { Wrote nodes.old nodes.new (flat_one (Program.top_list (scope_at base.now levels.now 0) (known_as known.now) place under.entry)) }
+    ensures { Wrote nodes.old nodes.new (flat_one (Program.top_list (scope_of within.entry) (known_as known.now) place under.entry)) }
 {
-    match top_shape(alloc, base, levels, known, place, &under) {
-        Ok(shape) => push_top_shaped(alloc, base, levels, shape, place, under.skip(1), nodes),
+    match top_shape(within, known, place, &under) {
+        Ok(shape) => push_top_shaped(within, shape, place, under.skip(1), nodes),
         Err(_) => nodes.fill(),
     }
 }
 
 /// Writes the form of a datum at top level.
-fn push_top(
-    alloc: Global,
-    base: &Base,
-    levels: &Levels,
-    known: &Known,
-    datum: &Datum,
-    nodes: &mut Writer<ExpandedNode>,
-)
-    ensures { Wrote nodes.old nodes.new (flat_one (Program.top_form (scope_at base.now levels.now 0) (known_as known.now) datum.now)) }
+fn push_top(within: Within, known: &Known, datum: &Datum, nodes: &mut Writer<ExpandedNode>)
+    ensures { Wrote nodes.old nodes.new (flat_one (Program.top_form (scope_of within.entry) (known_as known.now) datum.now)) }
 {
     let Some((first, _)) = Items::of(datum).split_first() else {
         return push_node(
@@ -258,8 +240,8 @@ fn push_top(
         );
     };
     match first {
-        First::Leaf(leaf, place) => push_node(leaf_within(base, levels, 0, leaf), place, 0, nodes),
-        First::List(place, under) => push_top_list(alloc, base, levels, known, place, under, nodes),
+        First::Leaf(leaf, place) => push_node(leaf_within(within, leaf), place, 0, nodes),
+        First::List(place, under) => push_top_list(within, known, place, under, nodes),
     }
 }
 
@@ -272,22 +254,17 @@ fn know(alloc: Global, symbols: &Symbols, datum: &Datum, known: &mut Known) -> R
 }
 
 /// The forms of a program, with all their implicit blocks.
-fn top_forms(
-    alloc: Global,
-    base: &Base,
-    levels: &Levels,
-    program: &[Datum],
-) -> Result<Vec<ExpandedNode>, Memory>
-    ensures { IfOk result (λ nodes. nodes.items ≡ flat (Program.top_forms (scope_at base.now levels.now 0) Program.nothing_known program.now)) }
+fn top_forms(within: Within, program: &[Datum]) -> Result<Vec<ExpandedNode>, Memory>
+    ensures { IfOk result (λ nodes. nodes.items ≡ flat (Program.top_forms (scope_of within.entry) Program.nothing_known program.now)) }
 {
-    let mut nodes = Writer::new(alloc);
+    let mut nodes = Writer::new(within.alloc);
     let mut known = Known {
-        variables: Vec::new(alloc),
-        functions: Vec::new(alloc),
+        variables: Vec::new(within.alloc),
+        functions: Vec::new(within.alloc),
     };
     for datum in program {
-        push_top(alloc, base, levels, &known, datum, &mut nodes);
-        know(alloc, base.symbols, datum, &mut known)?;
+        push_top(within, &known, datum, &mut nodes);
+        know(within.alloc, within.base.symbols, datum, &mut known)?;
     }
     nodes.finish()
 }
@@ -303,19 +280,14 @@ fn count_forms(program: &[Datum]) -> Result<u32, Memory>
 }
 
 /// The expansion of a program.
-pub fn expansion(
-    alloc: Global,
-    base: &Base,
-    levels: &Levels,
-    program: &[Datum],
-) -> Result<Vec<ExpandedNode>, Memory>
-    ensures { IfOk result (λ nodes. nodes.items ≡ flat (Blocks.lowered [] (Program.top_forms (scope_at base.now levels.now 0) Program.nothing_known program.now))) }
+pub fn expansion(within: Within, program: &[Datum]) -> Result<Vec<ExpandedNode>, Memory>
+    ensures { IfOk result (λ nodes. nodes.items ≡ flat (Blocks.lowered [] (Program.top_forms (scope_of within.entry) Program.nothing_known program.now))) }
 {
     let count = count_forms(program)?;
-    let forms = top_forms(alloc, base, levels, program)?;
+    let forms = top_forms(within, program)?;
     if !has_block(forms.as_slice()) {
         return Ok(forms);
     }
-    let made = lowered(alloc, Vec::new(alloc), count, forms)?;
+    let made = lowered(within.alloc, Vec::new(within.alloc), count, forms)?;
     Ok(made)
 }

@@ -5,6 +5,7 @@ use Rattle.form_shapes.specs.declared.levels.Numbered.{Numbered}
 use Rattle.form_shapes.specs.declared.scope.Base.{Base}
 use Rattle.form_shapes.specs.declared.scope.Context.{Context}
 use Rattle.form_shapes.specs.declared.scope.Opened.{Opened}
+use Rattle.form_shapes.specs.declared.scope.Within.{Within}
 use Rattle.form_shapes.specs.Scopes.{Scope, with_open}
 
 -- a context as a scope
@@ -15,6 +16,10 @@ scope_in c = record { names = c.symbols.now; texts = c.texts.now; specials = c.s
 abbrev pub scope_at : Base → List Numbered → ℕ → Scope
 scope_at b levels depth =
     record { names = b.symbols.now; texts = b.texts.now; specials = b.specials.now; functions = b.functions.now; levels = levels; depth = depth }
+
+-- what the expander hands on, as a scope
+abbrev pub scope_of : Within → Scope
+scope_of w = scope_at w.base.now w.levels.now w.depth
 
 -- a scope with this open in place of what is open in it
 abbrev pub with_opened : Scope → Opened → Scope

@@ -173,7 +173,7 @@ decreases-rows::push_when l = 40 * size_of l.arguments + 4
 abbrev pub invariant-bodies::push_clauses-loop-first : goal.invariant-bodies::push_clauses-loop-first
 invariant-bodies::push_clauses-loop-first l = record {
   smaller : size_of l.left ≤ size_of l.fn.clauses;
-  written : Writes l.fn.nodes l.nodes (flat (clauses_in (scope_at l.base l.levels l.depth) l.place l.left)) (flat (clauses_in (scope_at l.base l.levels l.depth) l.place l.fn.clauses));
+  written : Writes l.fn.nodes l.nodes (flat (clauses_in (scope_at l.within.base.now l.within.levels.now l.within.depth) l.place l.left)) (flat (clauses_in (scope_at l.within.base.now l.within.levels.now l.within.depth) l.place l.fn.clauses));
 }
 
 abbrev pub decreases-bodies::push_clauses-loop-first : goal.decreases-bodies::push_clauses-loop-first
@@ -182,7 +182,7 @@ decreases-bodies::push_clauses-loop-first l = size_of l.left
 abbrev pub invariant-expand::push_all-loop-first : goal.invariant-expand::push_all-loop-first
 invariant-expand::push_all-loop-first l = record {
   smaller : size_of l.left ≤ size_of l.fn.items;
-  written : Writes l.fn.nodes l.nodes (flat (forms_in (scope_at l.base l.levels l.depth) l.left)) (flat (forms_in (scope_at l.base l.levels l.depth) l.fn.items));
+  written : Writes l.fn.nodes l.nodes (flat (forms_in (scope_at l.within.base.now l.within.levels.now l.within.depth) l.left)) (flat (forms_in (scope_at l.within.base.now l.within.levels.now l.within.depth) l.fn.items));
 }
 
 abbrev pub decreases-expand::push_all-loop-first : goal.decreases-expand::push_all-loop-first
@@ -192,7 +192,7 @@ abbrev pub invariant-expand::push_by_roles-loop-first : goal.invariant-expand::p
 invariant-expand::push_by_roles-loop-first l = record {
   smaller : size_of l.left ≤ size_of l.fn.items;
   few : l.index ≤ 2 ^ 30 - 1 - count_of l.left;
-  written : Writes l.fn.nodes l.nodes (flat (by_roles (scope_at l.base l.levels l.depth) l.roles l.index l.left)) (flat (by_roles (scope_at l.base l.levels l.depth) l.roles 0 l.fn.items));
+  written : Writes l.fn.nodes l.nodes (flat (by_roles (scope_at l.within.base.now l.within.levels.now l.within.depth) l.roles l.index l.left)) (flat (by_roles (scope_at l.within.base.now l.within.levels.now l.within.depth) l.roles 0 l.fn.items));
 }
 
 abbrev pub decreases-expand::push_by_roles-loop-first : goal.decreases-expand::push_by_roles-loop-first
@@ -201,7 +201,7 @@ decreases-expand::push_by_roles-loop-first l = size_of l.left
 abbrev pub invariant-lets::push_values-loop-first : goal.invariant-lets::push_values-loop-first
 invariant-lets::push_values-loop-first l = record {
   smaller : size_of l.left ≤ size_of l.fn.bindings;
-  written : Writes l.fn.nodes l.nodes (flat (values_in (scope_at l.base l.levels l.depth) l.left)) (flat (values_in (scope_at l.base l.levels l.depth) l.fn.bindings));
+  written : Writes l.fn.nodes l.nodes (flat (values_in (scope_at l.within.base.now l.within.levels.now l.within.depth) l.left)) (flat (values_in (scope_at l.within.base.now l.within.levels.now l.within.depth) l.fn.bindings));
 }
 
 abbrev pub decreases-lets::push_values-loop-first : goal.decreases-lets::push_values-loop-first
@@ -210,7 +210,7 @@ decreases-lets::push_values-loop-first l = size_of l.left
 abbrev pub invariant-rows::push_and-loop-first : goal.invariant-rows::push_and-loop-first
 invariant-rows::push_and-loop-first l = record {
   smaller : size_of l.left ≤ size_of l.fn.arguments;
-  written : Writes l.fn.nodes l.nodes (and_front l.place (forms_in (scope_at l.base l.levels l.depth) l.left)) (and_front l.place (forms_in (scope_at l.base l.levels l.depth) l.fn.arguments));
+  written : Writes l.fn.nodes l.nodes (and_front l.place (forms_in (scope_at l.within.base.now l.within.levels.now l.within.depth) l.left)) (and_front l.place (forms_in (scope_at l.within.base.now l.within.levels.now l.within.depth) l.fn.arguments));
 }
 
 abbrev pub decreases-rows::push_and-loop-first : goal.decreases-rows::push_and-loop-first
@@ -219,7 +219,7 @@ decreases-rows::push_and-loop-first l = size_of l.left
 abbrev pub invariant-rows::push_cond-loop-first : goal.invariant-rows::push_cond-loop-first
 invariant-rows::push_cond-loop-first l = record {
   smaller : size_of l.left ≤ size_of l.fn.clauses;
-  written : Writes l.fn.nodes l.nodes (flat_one (conds_in (scope_at l.base l.levels l.open) l.place l.left)) (flat_one (conds_in (scope_at l.base l.levels l.depth) l.place l.fn.clauses));
+  written : Writes l.fn.nodes l.nodes (flat_one (conds_in (scope_at l.within.base.now l.within.levels.now l.open) l.place l.left)) (flat_one (conds_in (scope_at l.within.base.now l.within.levels.now l.within.depth) l.place l.fn.clauses));
 }
 
 abbrev pub decreases-rows::push_cond-loop-first : goal.decreases-rows::push_cond-loop-first
@@ -228,7 +228,7 @@ decreases-rows::push_cond-loop-first l = size_of l.left
 abbrev pub invariant-rows::push_or-loop-first : goal.invariant-rows::push_or-loop-first
 invariant-rows::push_or-loop-first l = record {
   smaller : size_of l.left ≤ size_of l.fn.arguments;
-  written : Writes l.fn.nodes l.nodes (flat_one (ors_in (scope_at l.base l.levels l.open) l.place l.left)) (flat_one (ors_in (scope_at l.base l.levels l.depth) l.place l.fn.arguments));
+  written : Writes l.fn.nodes l.nodes (flat_one (ors_in (scope_at l.within.base.now l.within.levels.now l.open) l.place l.left)) (flat_one (ors_in (scope_at l.within.base.now l.within.levels.now l.within.depth) l.place l.fn.arguments));
 }
 
 abbrev pub decreases-rows::push_or-loop-first : goal.decreases-rows::push_or-loop-first
@@ -237,7 +237,7 @@ decreases-rows::push_or-loop-first l = size_of l.left
 abbrev pub invariant-rows::push_pairs-loop-first : goal.invariant-rows::push_pairs-loop-first
 invariant-rows::push_pairs-loop-first l = record {
   smaller : size_of l.left ≤ size_of l.fn.items;
-  written : Writes l.fn.nodes l.nodes (flat (pairs_in (scope_at l.base l.levels l.depth) l.place l.left)) (flat (pairs_in (scope_at l.base l.levels l.depth) l.place l.fn.items));
+  written : Writes l.fn.nodes l.nodes (flat (pairs_in (scope_at l.within.base.now l.within.levels.now l.within.depth) l.place l.left)) (flat (pairs_in (scope_at l.within.base.now l.within.levels.now l.within.depth) l.place l.fn.items));
 }
 
 abbrev pub decreases-rows::push_pairs-loop-first : goal.decreases-rows::push_pairs-loop-first
@@ -248,5 +248,5 @@ invariant-lets::push_turns-loop-variable l = record {
   smaller : size_of l.left ≤ size_of l.fn.bindings;
   bound : bound_in l.fn.bindings ≡ Some l.variables → bound_in l.left ≡ Some (drop l.variable-index l.variables);
   written : bound_in l.fn.bindings ≡ Some l.variables
-      → Writes l.fn.nodes l.nodes (turn_nodes (with_opened (scope_at l.base l.levels l.depth) l.«open») l.place l.body l.left) (turn_nodes (scope_at l.base l.levels l.depth) l.place l.body l.fn.bindings);
+      → Writes l.fn.nodes l.nodes (turn_nodes (with_opened (scope_at l.within.base.now l.within.levels.now l.within.depth) l.«open») l.place l.body l.left) (turn_nodes (scope_at l.within.base.now l.within.levels.now l.within.depth) l.place l.body l.fn.bindings);
 }

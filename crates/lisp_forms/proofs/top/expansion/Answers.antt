@@ -13,14 +13,14 @@ use Rattle.lisp_forms.proofs.top.expansion.Goals as goal
 
 pub returns : goal.returns
 returns c =
-    let s : Scope = scope_at c.args.base.now c.args.levels.now 0 in
+    let s : Scope = scope_at c.args.within.base.now c.args.within.levels.now c.args.within.depth in
     let e : Expansion = top_forms s nothing_known c.args.program.now in
     c.in_ok-made.ensures e c.in_ok-forms.ensures (c.in_ok-count.ensures ∙ sym (count-top s nothing_known c.args.program.now))
     ∙ ap (λ gone. flat (lowered (reverse gone) e)) c.new.ensures.items
 
 pub returns-then-not-has_block : goal.returns-then-not-has_block
 returns-then-not-has_block c =
-    let s : Scope = scope_at c.args.base.now c.args.levels.now 0 in
+    let s : Scope = scope_at c.args.within.base.now c.args.within.levels.now c.args.within.depth in
     let e : Expansion = top_forms s nothing_known c.args.program.now in
     c.in_ok-forms.ensures
     ∙ ap flat (sym (lowered-same e (ap (list_any (λ n. is_in_block n.kind)) (sym (c.as_slice.ensures.value ∙ c.in_ok-forms.ensures)) ∙ sym c.has_block.ensures ∙ c.if-not-has_block.true)))

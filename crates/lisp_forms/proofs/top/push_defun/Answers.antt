@@ -15,7 +15,7 @@ use Rattle.lisp_forms.proofs.top.push_defun.Goals as goal
 
 pub returns : goal.returns
 returns c =
-    let s : Scope = scope_at c.args.base.now c.args.levels.now 0 in
+    let s : Scope = scope_at c.args.within.base.now c.args.within.levels.now c.args.within.depth in
     let inner : Scope = with_opened s c.open.new.self in
     written_defun s inner c.args.place c.args.name c.in-Ok-received_within.open.depth c.count-forms.result c.blocked_parts-blocked.result c.args.arguments c.function_body_of-body.result
     c.as_slice-bound.result.now c.in-Ok-finish.written.items c.args.nodes.now c.push_node.new.nodes c.push_specials.new.nodes c.push_blocked.new.nodes

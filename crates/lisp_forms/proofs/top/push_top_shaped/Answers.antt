@@ -4,4 +4,4 @@ use Rattle.lisp_forms.proofs.top.push_top_shaped.Goals as goal
 
 pub returns-in_default : goal.returns-in_default
 returns-in_default c =
-    written_otherwise (scope_at c.args.base.now c.args.levels.now 0) c.args.place c.args.shape c.args.arguments _ _ c.in_default.not-Defun c.push_shaped.ensures
+    written_otherwise (scope_at c.args.within.base.now c.args.within.levels.now c.args.within.depth) c.args.place c.args.shape c.args.arguments _ _ c.in_default.not-Defun c.push_shaped.ensures

@@ -9,4 +9,4 @@ use Rattle.lisp_forms.proofs.top.top_forms.Given as goal
 -- the forms so far, with those of the data that are left, are all
 abbrev pub invariant-loop-datum : goal.invariant-loop-datum
 invariant-loop-datum l =
-    Writes (Some []) l.nodes (flat (Program.top_forms (scope_at l.base l.levels 0) (known_as l.known) (drop l.datum-index l.program))) (flat (Program.top_forms (scope_at l.base l.levels 0) Program.nothing_known l.program))
+    Writes (Some []) l.nodes (flat (Program.top_forms (scope_at l.within.base.now l.within.levels.now l.within.depth) (known_as l.known) (drop l.datum-index l.program))) (flat (Program.top_forms (scope_at l.within.base.now l.within.levels.now l.within.depth) Program.nothing_known l.program))
