@@ -6,3 +6,12 @@ pub mod Rows
 pub mod Frames
 pub mod Read
 pub mod Programs
+pub mod Related
+pub mod Shifted
+pub mod Without
+pub mod Alike
+pub mod Rowed
+pub mod Framed
+pub mod Seating
+pub mod Induction
+pub mod Base

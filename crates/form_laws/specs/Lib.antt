@@ -1,2 +1,3 @@
 pub mod Scoping
+pub mod Unused
 pub mod inside

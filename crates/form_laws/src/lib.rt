@@ -2,3 +2,4 @@
 #![tactic(auto)]
 
 pub mod scoping;
+pub mod unused;
