@@ -1,8 +1,8 @@
 #!/usr/bin/env bash
 # How long lisp_run takes to read, expand and judge long texts, and how much memory: numbers at top level, lists nested 256 deep
 # again and again, mixed program text of forms that are run, and mixed text of forms of all kinds, which is judged whole and then
-# refused as not built; of 100,000 and of 1,000,000 bytes. The time of the empty text is taken off. Each time is the least of five
-# runs. Where SBCL is installed, the time of its `read` for the longer text stands beside: the least of five times of ten readings each
+# refused as not built; of 100,000 and of 1,000,000 bytes. The time of the empty text is taken off. Each time is the least of 25
+# runs. Where SBCL is installed, the time of its `read` for the longer text stands beside: the least of 25 times of ten readings each
 # in one process, as its clock may have steps of 4 ms.
 set -eu
 top=$(cd "$(dirname "${BASH_SOURCE[0]}")/.." && pwd)
@@ -113,7 +113,7 @@ PY
 # The same texts, read by SBCL's `read`, which only makes data of them.
 cat >"$work/read.lisp" <<'LISP'
 (let ((least nil))
-  (dotimes (turn 5)
+  (dotimes (turn 25)
     (let ((start (get-internal-real-time)))
       (dotimes (again 10)
         (with-open-file (text (second sb-ext:*posix-argv*))
@@ -129,7 +129,7 @@ program, work = sys.argv[1:]
 
 def run(name):
     least, peak = 9.0, 0
-    for _ in range(5):
+    for _ in range(25):
         with open(f"{work}/{name}") as text:
             start = time.perf_counter()
             child = subprocess.Popen([program], stdin=text, stdout=subprocess.DEVNULL)
