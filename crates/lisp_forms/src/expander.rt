@@ -63,26 +63,27 @@ fn refusal_of(node: &ExpandedNode) -> Option<Refused>
     }
 }
 
-/// The first refusal among these nodes.
-fn first_refusal(nodes: &[ExpandedNode]) -> Option<Refused>
-    ensures { (e : Expansion) → nodes.now ≡ flat e → result ≡ Program.first_refusal None e }
-{
-    let mut found = None;
-    for node in nodes {
-        found = earlier(found, refusal_of(node));
-    }
-    found
+/// What was found among nodes.
+#[derive(Drop)]
+struct Found {
+    /// The first refusal of a form.
+    refusal: Option<Refused>,
+    /// The places of the functions.
+    functions: Vec<Place>,
 }
 
-/// The places of the functions among these nodes.
-fn function_places(alloc: Global, nodes: &[ExpandedNode]) -> Result<Vec<Place>, Memory>
-    ensures { IfOk result (λ places. (e : Expansion) → nodes.now ≡ flat e → places.items ≡ Program.function_places e) }
+/// The first refusal among these nodes, and the places of the functions among them.
+fn found_in(alloc: Global, nodes: &[ExpandedNode]) -> Result<Found, Memory>
+    ensures refusal { IfOk result (λ found. (e : Expansion) → nodes.now ≡ flat e → found.refusal ≡ Program.first_refusal None e) }
+    ensures functions { IfOk result (λ found. (e : Expansion) → nodes.now ≡ flat e → found.functions.items ≡ Program.function_places e) }
 {
-    let mut places = Vec::new(alloc);
+    let mut refusal = None;
+    let mut functions = Vec::new(alloc);
     for node in nodes {
-        push_place(node, &mut places)?;
+        refusal = earlier(refusal, refusal_of(node));
+        push_place(node, &mut functions)?;
     }
-    Ok(places)
+    Ok(Found { refusal, functions })
 }
 
 /// Writes the place of a node that is a function.
@@ -143,9 +144,9 @@ fn limit_refusal(past: Option<Place>) -> Option<Refused>
 fn program_refusal(alloc: Global, nodes: &[ExpandedNode]) -> Result<Option<Refused>, Memory>
     ensures { IfOk result (λ refusal. (e : Expansion) → nodes.now ≡ flat e → refusal ≡ Program.program_refusal e) }
 {
-    let places = function_places(alloc, nodes)?;
-    let limit = limit_refusal(past_limit(places.as_slice()));
-    Ok(earlier(first_refusal(nodes), limit))
+    let found = found_in(alloc, nodes)?;
+    let limit = limit_refusal(past_limit(found.functions.as_slice()));
+    Ok(earlier(found.refusal, limit))
 }
 
 /// The program that data stand for, where these are the names of its symbols and the texts of its string literals. It errs with what

@@ -12,7 +12,7 @@ use lisp_forms::expander::expand;
 use lisp_program::form::Program;
 use lisp_reader::reader::read_program;
 use plain_program::form::PlainNode;
-use plain_program::plain::{first_unbuilt, plain_nodes};
+use plain_program::plain::plain_nodes;
 use std::alloc::Global;
 use symbol_table::symbols::Symbols;
 use symbol_table::texts::Texts;
@@ -47,10 +47,10 @@ fn plain_main(alloc: Global, program: &Program) -> Result<Vec<PlainNode>, Reject
     ensures plain { IfOk result (λ forms. IsPlain (program_of program.now) (forms_of forms.items)) }
     ensures refused { IfErr result (IsUnbuilt (program_of program.now)) }
 {
-    if let Some(place) = first_unbuilt(program.main()) {
-        return Err(Rejection::at(Refusal::NotBuilt, place));
+    match plain_nodes(alloc, program.main())? {
+        Ok(forms) => Ok(forms),
+        Err(place) => Err(Rejection::at(Refusal::NotBuilt, place)),
     }
-    Ok(plain_nodes(alloc, program.main())?)
 }
 
 /// The program that these bytes are, with the forms of main that are run, and with their names and string literals.

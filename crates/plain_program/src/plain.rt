@@ -1,12 +1,12 @@
-ghost use Rattle.std.specs.Prelude.{◌≡◌, IfOk};
+ghost use Rattle.std.specs.Prelude.{◌≡◌, Some, None, IfOk};
+ghost use Rattle.std.specs.Result.{IfErr};
 ghost use Rattle.lisp_program.specs.Forms.{forms_of as core_forms_of};
 ghost use Rattle.plain_program.specs.Forms.{forms_of};
-ghost use Rattle.plain_program.specs.Plain.{first_unbuilt as first_unbuilt_in, kind_or_nil as kind_or_nil_of, least as least_of, place_without, plain_forms, plain_kind as plain_kind_of, plain_primitive as primitive_of, plain_printing as printing_of};
+ghost use Rattle.plain_program.specs.Plain.{first_unbuilt as first_unbuilt_in, least as least_of, place_without, plain_forms, plain_kind as plain_kind_of, plain_primitive as primitive_of, plain_printing as printing_of};
 
 use crate::form::{PlainKind, PlainNode};
 use lisp_base::id::Place;
 use lisp_base::memory::Memory;
-use lisp_base::value::Value;
 use lisp_program::form::{CoreKind, FormNode};
 use lisp_program::function::{Primitive, Printing};
 use std::alloc::Global;
@@ -49,42 +49,6 @@ fn plain_kind(kind: CoreKind) -> Option<PlainKind>
     }
 }
 
-/// The plain kind that a core kind is, or the constant NIL where it is not run yet.
-fn kind_or_nil(kind: CoreKind) -> PlainKind
-    ensures { result ≡ kind_or_nil_of (plain_kind_of kind) }
-{
-    match plain_kind(kind) {
-        Some(kind) => kind,
-        None => PlainKind::Constant(Value::nil()),
-    }
-}
-
-/// Forms as plain forms. A form whose kind is not run yet becomes the constant NIL.
-pub fn plain_nodes(alloc: Global, main: &[FormNode]) -> Result<Vec<PlainNode>, Memory>
-    ensures { IfOk result (λ nodes. forms_of nodes.items ≡ plain_forms (core_forms_of main.now)) }
-{
-    let mut nodes = Vec::new(alloc);
-    nodes.reserve(main.len())?;
-    for node in main {
-        nodes.push(PlainNode {
-            kind: kind_or_nil(node.kind),
-            place: node.place,
-            parts: node.parts,
-        })?;
-    }
-    Ok(nodes)
-}
-
-/// The place of a form whose kind is not run yet: `None` for any other form.
-fn unbuilt(node: &FormNode) -> Option<Place>
-    ensures { result ≡ place_without (plain_kind_of node.now.kind) node.now.place }
-{
-    match plain_kind(node.kind) {
-        Some(_) => None,
-        None => Some(node.place),
-    }
-}
-
 /// The least of two places: of those that there are.
 fn least(one: Option<Place>, other: Option<Place>) -> Option<Place>
     ensures { result ≡ least_of one other }
@@ -96,13 +60,32 @@ fn least(one: Option<Place>, other: Option<Place>) -> Option<Place>
     }
 }
 
-/// The least place of a form whose kind is not run yet: `None` where all are run.
-pub fn first_unbuilt(main: &[FormNode]) -> Option<Place>
-    ensures { result ≡ first_unbuilt_in (core_forms_of main.now) }
+/// Forms as plain forms, or the least place of a form whose kind is not run yet.
+pub fn plain_nodes(
+    alloc: Global,
+    main: &[FormNode],
+) -> Result<Result<Vec<PlainNode>, Place>, Memory>
+    ensures plain { IfOk result (λ plain. IfOk plain (λ nodes. (first_unbuilt_in (core_forms_of main.now) ≡ None) × (forms_of nodes.items ≡ plain_forms (core_forms_of main.now)))) }
+    ensures unbuilt { IfOk result (λ plain. IfErr plain (λ place. first_unbuilt_in (core_forms_of main.now) ≡ Some place)) }
 {
+    let mut nodes = Vec::new(alloc);
     let mut found = None;
     for node in main {
-        found = least(found, unbuilt(node));
+        match plain_kind(node.kind) {
+            None => found = least(found, Some(node.place)),
+            Some(kind) => {
+                if found.is_none() {
+                    nodes.push(PlainNode {
+                        kind,
+                        place: node.place,
+                        parts: node.parts,
+                    })?;
+                }
+            }
+        }
     }
-    found
+    match found {
+        Some(place) => Ok(Err(place)),
+        None => Ok(Ok(nodes)),
+    }
 }
