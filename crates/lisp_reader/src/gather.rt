@@ -72,12 +72,9 @@ fn write_upper(letters: &[u8], name: &mut String) -> Result<(), Memory>
     requires { IsTrue (list_all is_ascii letters.now) }
     ensures { OnOk result (string_bytes name.new ≡ Meanings.upper letters.now) }
 {
-    // Letters in ASCII are UTF-8.
-    let Ok(text) = str::from_utf8(letters) else {
-        return Ok(());
-    };
     name.clear();
-    name.push_str(text)?;
+    // Letters in ASCII are UTF-8.
+    name.push_str(unsafe { str::from_utf8_unchecked(letters) })?;
     name.make_ascii_uppercase();
     Ok(())
 }
