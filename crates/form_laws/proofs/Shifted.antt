@@ -100,6 +100,17 @@ node-returns n m kind kind' t t' u u' h is other same beside =
     ∙ ap (λ b. is_return_to m kind || b || u') same
     ∙ ap (λ b. is_return_to m kind || (if is_function kind then false else t) || b) beside
 
+-- a form does not return to a block, nor do those under it and beside it, where none of all these does
+none-in : (n : ℕ) (kind : Expanded) (under beside : Expansion)
+    → (is_return_to n kind || (if is_function kind then false else returns_to n under) || returns_to n beside) ≡ false
+    → (is_return_to n kind ≡ false) × Under kind (Unit {0}) (returns_to n under ≡ false) × (returns_to n beside ≡ false)
+none-in n kind under beside none =
+    let first : (is_return_to n kind || (if is_function kind then false else returns_to n under)) ≡ false = not-first _ (returns_to n beside) none in (
+      not-first (is_return_to n kind) (if is_function kind then false else returns_to n under) first,
+      under-not kind (returns_to n under) (not-second (is_return_to n kind) _ first),
+      not-second (is_return_to n kind || (if is_function kind then false else returns_to n under)) (returns_to n beside) none,
+    )
+
 -- related forms return to the same blocks inside the block
 pub returns-same : (n : ℕ) (e e' : Expansion) (m : ℕ) → n < m → Related n e e' → IsAccepted e → returns_to n e ≡ false
     → returns_to (shift n m) e' ≡ returns_to m e
@@ -107,16 +118,13 @@ returns-same n NoTrees NoTrees m h r a none = refl
 returns-same n NoTrees (Tree kind' p' under' beside') m h r a none = absurd r
 returns-same n (Tree kind p under beside) NoTrees m h r a none = absurd r
 returns-same n (Tree kind p under beside) (Tree kind' p' under' beside') m h r a none =
-    let first : (is_return_to n kind || (if is_function kind then false else returns_to n under)) ≡ false = not-first _ (returns_to n beside) none in
-    let here : is_return_to n kind ≡ false = not-first (is_return_to n kind) (if is_function kind then false else returns_to n under) first in
-    let inner : Under kind (Unit {0}) (returns_to n under ≡ false) = under-not kind (returns_to n under) (not-second (is_return_to n kind) _ first) in
-    let later : returns_to n beside ≡ false = not-second (is_return_to n kind || (if is_function kind then false else returns_to n under)) (returns_to n beside) none in
+    let parts = none-in n kind under beside none in
     elim r.0 [
-      | inl free ↦ not-free n kind free a.0 here
-      | inr alike ↦ node-returns n m kind kind' (returns_to m under) (returns_to (shift n m) under') (returns_to m beside) (returns_to (shift n m) beside') h alike.0 here
+      | inl free ↦ not-free n kind free a.0 parts.0
+      | inr alike ↦ node-returns n m kind kind' (returns_to m under) (returns_to (shift n m) under') (returns_to m beside) (returns_to (shift n m) beside') h alike.0 parts.0
           (under-returns (under ≡ under') kind (returns_to (shift n m) under') (returns_to m under)
-          (under-both (under ≡ under') (Unit {0}) kind (λ i not. returns-same n under under' m h i a.1 not) alike.3 inner))
-          (returns-same n beside beside' m h r.1 a.2 later)
+          (under-both (under ≡ under') (Unit {0}) kind (λ i not. returns-same n under under' m h i a.1 not) alike.3 parts.1))
+          (returns-same n beside beside' m h r.1 a.2 parts.2)
     ]
 
 -- Blocks that are not made, and the same without one of them: each number is the same.
@@ -217,16 +225,13 @@ lowered-same n NoTrees NoTrees r a none gone gone' g = refl
 lowered-same n NoTrees (Tree kind' p' under' beside') r a none gone gone' g = absurd r
 lowered-same n (Tree kind p under beside) NoTrees r a none gone gone' g = absurd r
 lowered-same n (Tree kind p under beside) (Tree kind' p' under' beside') r a none gone gone' g =
-    let first : (is_return_to n kind || (if is_function kind then false else returns_to n under)) ≡ false = not-first _ (returns_to n beside) none in
-    let here : is_return_to n kind ≡ false = not-first (is_return_to n kind) (if is_function kind then false else returns_to n under) first in
-    let inner : Under kind (Unit {0}) (returns_to n under ≡ false) = under-not kind (returns_to n under) (not-second (is_return_to n kind) _ first) in
-    let later : returns_to n beside ≡ false = not-second (is_return_to n kind || (if is_function kind then false else returns_to n under)) (returns_to n beside) none in
+    let parts = none-in n kind under beside none in
     elim r.0 [
-      | inl free ↦ not-free n kind free a.0 here
+      | inl free ↦ not-free n kind free a.0 parts.0
       | inr alike ↦ node-lowered n kind p under under' beside beside' gone gone' g a.0 alike.1
-          (under-both (under ≡ under') (Unit {0}) kind (λ i not. lowered-same n under under' i a.1 not) alike.3 inner)
-          (under-both (under ≡ under') (Unit {0}) kind (λ i not m h. returns-same n under under' m h i a.1 not) alike.3 inner)
-          (lowered-same n beside beside' r.1 a.2 later gone gone' g)
+          (under-both (under ≡ under') (Unit {0}) kind (λ i not. lowered-same n under under' i a.1 not) alike.3 parts.1)
+          (under-both (under ≡ under') (Unit {0}) kind (λ i not m h. returns-same n under under' m h i a.1 not) alike.3 parts.1)
+          (lowered-same n beside beside' r.1 a.2 parts.2 gone gone' g)
           ∙ ap (λ l. lowered gone' (Tree l p under' beside')) (sym alike.0)
           ∙ ap (λ q. lowered gone' (Tree kind' q under' beside')) (sym alike.2)
     ]
