@@ -1,4 +1,6 @@
 //! Compiles programs: their points, laid out as code.
 #![tactic(auto)]
 
+mod names;
 pub mod refusal;
+mod unbuilt;

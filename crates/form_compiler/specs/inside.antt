@@ -1,0 +1,3 @@
+-- What only proofs use.
+pub mod Seats
+pub mod Unbuilt
