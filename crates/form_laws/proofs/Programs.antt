@@ -4,7 +4,7 @@ use Rattle.lisp_base.specs.Refusals.{are_same}
 use Rattle.lisp_base.specs.declared.refusal.Refusal.{Refusal}
 use Rattle.lisp_base.specs.declared.refusal.Refusal.TheVariants.{DefinedTwice, TooMany}
 use Rattle.lisp_base.specs.declared.value.Node.TheVariants.{Symbol as ASymbol}
-use Rattle.lisp_program.specs.Points.{nil}
+use Rattle.lisp_base.specs.Value.{nil}
 use Rattle.lisp_program.specs.declared.form.CoreKind.TheVariants as k
 use Rattle.lisp_data.specs.Data.{Data, NoData, Atom, Listed, behind, count_of}
 use Rattle.form_shapes.specs.declared.expanded.Expanded.TheVariants.{Form, RefusedFunction}

@@ -5,7 +5,7 @@ use Rattle.lisp_base.specs.declared.value.Node.TheVariants.{Int as AnInt}
 use Rattle.lisp_base.specs.Refusals.{are_same}
 use Rattle.lisp_base.specs.declared.refusal.Refusal.{Refusal}
 use Rattle.lisp_base.specs.declared.refusal.Refusal.TheVariants.{BadForm, FunctionPlace, NoSuchBlock, RegionOutside, TooMany, UnknownOperator, UnknownVariable}
-use Rattle.lisp_program.specs.Points.{nil}
+use Rattle.lisp_base.specs.Value.{nil}
 use Rattle.lisp_program.specs.declared.form.CoreKind.{CoreKind}
 use Rattle.lisp_program.specs.declared.form.CoreKind.TheVariants as k
 use Rattle.lisp_program.specs.declared.function.Primitive.{Primitive}

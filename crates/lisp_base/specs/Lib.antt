@@ -1,5 +1,6 @@
 pub mod Bytes
 pub mod Value
+pub mod Equality
 pub mod Forest
 pub mod Classes
 pub mod Timers

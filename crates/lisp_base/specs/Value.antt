@@ -1,7 +1,11 @@
 -- Which values there are, and which of them a program can tell apart.
 use Rattle.std.specs.Prelude.{ℕ, ℤ, pos, negsuc, ◌^◌, ◌-◌, ◌+◌, Bool, true, false, ◌&&◌, ◌||◌, int_le, nat_lt}
 use Rattle.lisp_base.specs.declared.value.Node.{Node}
-use Rattle.lisp_base.specs.declared.value.Node.TheVariants.{Int, Text, Time, Cond}
+use Rattle.lisp_base.specs.declared.value.Node.TheVariants.{Int, Symbol, Text, Time, Cond}
+
+-- NIL is the symbol 0
+abbrev pub nil : Node
+nil = Symbol 0
 
 -- the integers go from -2^62 to 2^62 - 1
 abbrev pub is_integer : ℤ → Bool

@@ -183,7 +183,7 @@ repeated-end (suc n) x = ap (λ ys. x ∷ ys) (repeated-end n x)
 
 -- the node of NIL
 abbrev nil_node : ℕ → ExpandedNode
-nil_node p = node (Form (k.Constant Rattle.lisp_program.specs.Points.nil)) p 0
+nil_node p = node (Form (k.Constant Rattle.lisp_base.specs.Value.nil)) p 0
 
 -- an `and`, written flat
 flat-and : (p n : ℕ) (fs : Expansion) → count_of fs ≡ suc n → flat_one (Rows.and_of p fs) ≡ and_front p fs ++ repeated n (nil_node p)

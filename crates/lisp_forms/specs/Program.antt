@@ -11,7 +11,7 @@ use Rattle.lisp_base.specs.declared.refusal.Rejection.{Rejection}
 use Rattle.lisp_base.specs.declared.refusal.Rejection.TheVariants.{Refused as RefusedProgram, Memory}
 use Rattle.lisp_base.specs.declared.value.Node.TheVariants.{Symbol as ASymbol}
 use Rattle.lisp_program.specs.Forms.{Forms}
-use Rattle.lisp_program.specs.Points.{nil}
+use Rattle.lisp_base.specs.Value.{nil}
 use Rattle.lisp_program.specs.Program.{Function, Program}
 use Rattle.lisp_program.specs.declared.form.CoreKind.{CoreKind}
 use Rattle.lisp_program.specs.declared.form.CoreKind.TheVariants as k

@@ -2,7 +2,7 @@
 use Rattle.std.specs.Prelude.{ℕ}
 use Rattle.lisp_base.specs.Forest.{Forest, NoTrees, Tree}
 use Rattle.lisp_base.specs.declared.refusal.Refusal.{Refusal}
-use Rattle.lisp_program.specs.Points.{nil}
+use Rattle.lisp_base.specs.Value.{nil}
 use Rattle.lisp_program.specs.declared.form.CoreKind.{CoreKind}
 use Rattle.lisp_program.specs.declared.form.CoreKind.TheVariants.{Constant, Progn}
 use Rattle.form_shapes.specs.declared.expanded.Expanded.{Expanded}

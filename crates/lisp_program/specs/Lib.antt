@@ -1,5 +1,4 @@
 pub mod Forms
-pub mod Points
 pub mod Program
 pub mod WellMade
 pub use Rattle.lisp_base.specs.Forest

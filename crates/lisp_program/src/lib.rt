@@ -1,6 +1,5 @@
-//! Programs as trees of core forms, and the points that each form takes, in order.
+//! Programs as trees of core forms.
 #![tactic(auto)]
 
-pub mod act;
 pub mod form;
 pub mod function;

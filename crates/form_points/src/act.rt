@@ -1,4 +1,4 @@
-use crate::function::{Primitive, Printing, Service};
+use lisp_program::function::{Primitive, Printing, Service};
 use lisp_base::condition::Condition;
 use lisp_base::id::{FunctionName, SymbolId};
 use lisp_base::value::Value;
@@ -78,16 +78,16 @@ pub enum Question {
     EndThread,
 }
 
-/// One of the operations that a service is made of. A timeout of NIL counts as not written: `Clock` is no point then, and
-/// `Try` does what `Main` does and settles the matter.
+/// One of the operations that a service is made of. A timeout of NIL counts as not written: `Try` does what `Main` does then, and
+/// `Clock` of a `condition-wait` what `Begin` does, and each settles the matter.
 #[derive(Clone, Copy, Debug, PartialEq, Eq)]
 pub enum Step {
     /// The clock's reading, from which a time counts.
     Clock,
-    /// The operation for which the service is named. That of a `grab-mutex` whose `:waitp` is NIL is a try.
+    /// The operation for which the service is named.
     Main,
     /// `try` or `poll`, which does not wait. It settles the matter where the mutex was free or the thread has ended, and where
-    /// `:waitp` is NIL.
+    /// `:waitp` is NIL. Where a `:waitp` is written and no timeout, it does what `Main` does if that is not NIL, and settles the matter.
     Try,
     /// `wait-begin`: waits in a waitqueue, with the mutex free.
     Begin,

@@ -1,0 +1,4 @@
+//! Compiles programs: their points, laid out as code.
+#![tactic(auto)]
+
+pub mod refusal;

@@ -1,0 +1,4 @@
+pub mod Points
+pub mod Operands
+pub mod Table
+pub mod Primitives

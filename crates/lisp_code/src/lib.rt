@@ -1,0 +1,5 @@
+//! Code: the points of a program laid out as instructions, one after the other.
+#![tactic(auto)]
+
+pub mod code;
+pub mod instr;
