@@ -1,4 +1,5 @@
 ghost use Rattle.std.specs.Prelude.{◌≡◌, ◌↔◌, ◌<◌, ◌≤◌, ◌+◌, ◌*◌, ◌^◌, IsTrue};
+ghost use Rattle.lisp_base.specs.Equality.{class_number as class_number_of};
 ghost use Rattle.lisp_base.specs.Operands.{function_in, value_in};
 ghost use Rattle.lisp_base.specs.Value.{is_in_range, is_integer};
 ghost use Rattle.lisp_base.specs.declared.word.Operand.TheVariants;
@@ -272,7 +273,7 @@ fn text_at(number: u64) -> Option<StringId>
 
 /// The number of a class, from 0.
 fn class_number(class: Class) -> u64
-    ensures same { result ≡ Words.class_number class }
+    ensures same { result ≡ class_number_of class }
     ensures limit { result < 21 }
     ensures back { Words.class_at result ≡ class }
 {

@@ -1,5 +1,6 @@
 -- How a word holds what a form gives: as a number, in a range for each kind that is as large as the kind.
 use Rattle.std.specs.Prelude.{ℕ, ℤ, pos, nat_abs, ◌+◌, ◌-◌, ◌*◌, ◌/◌, ◌%◌, ◌^◌, ◌+ℤ◌, ◌-ℤ◌, List, [], ◌∷◌, Option, Some, None, if◌then◌else◌, nat_lt, ◌==◌, slice_index_or}
+use Rattle.lisp_base.specs.Equality.{class_number}
 use Rattle.lisp_base.specs.Timers.{TimerNumbers}
 use Rattle.lisp_base.specs.declared.condition.Class.{Class}
 use Rattle.lisp_base.specs.declared.condition.Class.TheVariants.{Condition, SeriousCondition, Error, StorageCondition, SimpleError, TypeError, ProgramError, ControlError, CellError, UnboundVariable, UndefinedFunction, ArithmeticError, DivisionByZero, IntegerRange, ThreadError, InterruptThreadError, JoinThreadError, NotOwner, RecursiveLock, Timeout, DeadlineTimeout}
@@ -65,29 +66,6 @@ classes =
     Condition ∷ SeriousCondition ∷ Error ∷ StorageCondition ∷ SimpleError ∷ TypeError ∷ ProgramError ∷ ControlError ∷ CellError ∷ UnboundVariable
     ∷ UndefinedFunction ∷ ArithmeticError ∷ DivisionByZero ∷ IntegerRange ∷ ThreadError ∷ InterruptThreadError ∷ JoinThreadError ∷ NotOwner
     ∷ RecursiveLock ∷ Timeout ∷ DeadlineTimeout ∷ []
-
-abbrev pub class_number : Class → ℕ
-class_number Condition = 0
-class_number SeriousCondition = 1
-class_number Error = 2
-class_number StorageCondition = 3
-class_number SimpleError = 4
-class_number TypeError = 5
-class_number ProgramError = 6
-class_number ControlError = 7
-class_number CellError = 8
-class_number UnboundVariable = 9
-class_number UndefinedFunction = 10
-class_number ArithmeticError = 11
-class_number DivisionByZero = 12
-class_number IntegerRange = 13
-class_number ThreadError = 14
-class_number InterruptThreadError = 15
-class_number JoinThreadError = 16
-class_number NotOwner = 17
-class_number RecursiveLock = 18
-class_number Timeout = 19
-class_number DeadlineTimeout = 20
 
 abbrev pub class_at : ℕ → Class
 class_at n = slice_index_or classes n Condition
