@@ -13,3 +13,5 @@ mod names;
 mod printing;
 #[cfg(test)]
 mod steps;
+#[cfg(test)]
+mod words;
