@@ -2,5 +2,4 @@
 #![tactic(auto)]
 
 mod names;
-pub mod refusal;
 mod unbuilt;
