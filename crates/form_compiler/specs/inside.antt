@@ -1,3 +1,4 @@
 -- What only proofs use.
+pub mod Lengths
 pub mod Seats
 pub mod Unbuilt
