@@ -1,9 +1,12 @@
 //! Functions of a program by their names.
 ghost use Rattle.std.specs.Prelude.{◌≡◌, ◌<◌, ◌^◌, length, IfOk};
+ghost use Rattle.lisp_program.specs.Program.{program_of};
+ghost use Rattle.lisp_code.specs.CodeOf.{names_of, stretches_of};
 ghost use Rattle.lisp_code.specs.Lines.{seat_of};
 
 use lisp_base::id::{FunctionName, SymbolId};
 use lisp_base::memory::Memory;
+use lisp_program::form::Program;
 use std::alloc::Global;
 use std::collections::BTreeMap;
 use std::marker::Model;
@@ -31,8 +34,21 @@ impl Names {
     ghost use Rattle.std.specs.Prelude.{drop};
     ghost use Rattle.form_compiler.specs.inside.Seats.{AreSeats};
 
+    /// The names of a program's functions, and that of the function of `terminate-thread` after them.
+    pub fn of_program(alloc: Global, program: &Program) -> Result<Self, Memory>
+        requires { length program.now.functions < 2 ^ 31 }
+        ensures { IfOk result (λ n. n ≡ names_of (stretches_of (program_of program.now))) }
+    {
+        let mut names = Vec::new(alloc);
+        for function in program.functions() {
+            names.push(function.name())?;
+        }
+        names.push(FunctionName::AbortThread)?;
+        Names::of(alloc, names)
+    }
+
     /// These names. Of two functions with one name the first is found.
-    pub fn of(alloc: Global, names: Vec<FunctionName>) -> Result<Self, Memory>
+    fn of(alloc: Global, names: Vec<FunctionName>) -> Result<Self, Memory>
         requires { length names.items < 2 ^ 32 }
         ensures { IfOk result (λ n. n ≡ names.items) }
     {
