@@ -2,3 +2,4 @@
 pub mod Lengths
 pub mod Seats
 pub mod Unbuilt
+pub mod Extents

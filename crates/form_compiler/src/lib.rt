@@ -3,3 +3,7 @@
 
 mod names;
 mod unbuilt;
+pub mod extent;
+mod operands;
+pub mod row;
+mod sizes;
