@@ -1,6 +1,6 @@
 -- Extents of the forms at nodes.
 use Rattle.std.proofs.Common.{◌≡◌, ◌≤◌, ◌<◌, ℕ, zero, suc, ◌+◌, ◌-◌, min, List, ◌∷◌, length, drop, get_or, refl, ap, sym, ◌∙◌, arith, drop-cons, add-one}
-use Rattle.lisp_base.specs.Forest.{NoTrees, Tree, count_of, front, behind}
+use Rattle.lisp_base.specs.Forest.{NoTrees, Tree, count_of, front}
 use Rattle.lisp_program.specs.declared.form.FormNode.{FormNode}
 use Rattle.lisp_program.specs.Forms.{Forms, forms_of}
 use Rattle.form_points.specs.Points.{body_of}

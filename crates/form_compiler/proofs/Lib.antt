@@ -1,5 +1,5 @@
 pub mod Leasts
-pub mod Lengths
+pub mod Longs
 pub mod Namings
 pub mod Sized
 pub mod Walk

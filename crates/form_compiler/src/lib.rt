@@ -1,6 +1,7 @@
 //! Compiles programs: their points, laid out as code.
 #![tactic(auto)]
 
+mod lengths;
 mod names;
 mod unbuilt;
 pub mod extent;
