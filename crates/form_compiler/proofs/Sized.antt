@@ -1,17 +1,15 @@
 -- The numbers of lines of forms.
-use Rattle.std.proofs.Common.{◌≡◌, ◌≤◌, ℕ, zero, suc, ◌+◌, ◌-◌, min, List, [], ◌∷◌, length, true, false, refl, ap, arith}
+use Rattle.std.proofs.Common.{◌≡◌, ◌≤◌, ℕ, zero, suc, ◌+◌, ◌-◌, min, [], length, true, false, refl, ap, arith}
 use Rattle.lisp_base.specs.Forest.{NoTrees, Tree, count_of}
 use Rattle.lisp_program.specs.declared.form.CoreKind.{CoreKind}
 use Rattle.lisp_program.specs.declared.form.CoreKind.TheVariants.{Constant, CurrentThread, Function, Local, Special, SetLocal, SetSpecial, Defvar, Defparameter, Defun, CompareAndSwap, Progn, If, While, Let, BindLocal, BindSpecial, Call, Apply, Print, Serve, Block, ReturnFrom, Catch, Throw, UnwindProtect, WithoutInterrupts, AllowWithInterrupts, WithInterrupts, HandlerCase, Clause, ClauseWith, Signal, WithDeadline, AbortThread, ReturnFromThread}
 use Rattle.lisp_program.specs.declared.function.Service.{Service}
 use Rattle.lisp_program.specs.declared.function.Service.TheVariants.{MakeThread, JoinThread, InterruptThread, ThreadAlive, MakeMutex, MakeWaitqueue, GrabMutex, ReleaseMutex, MutexOwner, HoldingMutex, ConditionWait, ConditionNotify, ConditionBroadcast, Sleep, MakeTimer, ScheduleTimer, UnscheduleTimer}
 use Rattle.lisp_program.specs.Forms.{Forms}
-use Rattle.form_points.specs.declared.act.Act.{Act}
-use Rattle.form_points.specs.declared.act.Act.TheVariants.{ForgetLocal, Discard, Apply as ApplyAct, Call as CallAct, ReturnFrom as ReturnAct, Throw as ThrowAct, ReturnFromThread as ReturnThreadAct, WriteLocal}
+use Rattle.form_points.specs.declared.act.Act.TheVariants.{ForgetLocal, Discard, Call as CallAct}
 use Rattle.form_points.specs.declared.act.Opening.{Opening}
 use Rattle.form_points.specs.declared.act.Opening.TheVariants.{Catch as OpenCatch, Deadline as OpenDeadline}
-use Rattle.form_points.specs.declared.act.Question.{Question}
-use Rattle.form_points.specs.declared.act.Question.TheVariants.{Print as AskPrint, Write, Define, CompareAndSwap as Swap}
+use Rattle.form_points.specs.declared.act.Question.TheVariants.{Define}
 use Rattle.form_points.specs.Operands.{entered, first_of, operands, operands_of, others_of, printed_of, served_of, written}
 use Rattle.form_points.specs.Points.{Points, Done, Do, Ask, Test, Choose, Loop, Turn, Enter, Protect, Handle, When, all_of, body_of, joined}
 use Rattle.form_points.specs.Table.{points_of, service_of, table}
