@@ -1,5 +1,6 @@
 -- Extents of the forms at nodes.
 use Rattle.std.proofs.Common.{◌≡◌, ◌≤◌, ◌<◌, ℕ, zero, suc, ◌+◌, ◌-◌, min, List, ◌∷◌, length, drop, get_or, refl, ap, sym, ◌∙◌, arith, drop-cons, add-one}
+use Rattle.std.proofs.lemmas.List.{length-drop}
 use Rattle.lisp_base.specs.Forest.{NoTrees, Tree, count_of, front}
 use Rattle.lisp_program.specs.declared.form.FormNode.{FormNode}
 use Rattle.lisp_program.specs.Forms.{Forms, forms_of}
@@ -10,7 +11,7 @@ use Rattle.form_compiler.specs.declared.extent.Extent.{Extent}
 use Rattle.form_compiler.specs.declared.row.Row.{Row}
 use Rattle.form_compiler.specs.inside.Extents.{MOST, nodes_in, lines_in, gaps, row_of, row_lines, used, under_of, extents_of}
 use Rattle.form_compiler.proofs.Sized.{body_sized, lines_in-all, row_capped, row_sized}
-use Rattle.form_compiler.proofs.Walk.{extents-dropped, length-extents, length_dropped, nodes_in-all, within}
+use Rattle.form_compiler.proofs.Walk.{extents-dropped, length-extents, nodes_in-all, within}
 
 abbrev pub nothing : Extent
 nothing = record { lines = 0; nodes = 0; forms = 0 }
@@ -27,7 +28,7 @@ node_at nodes at d n h is = let e : drop at nodes ≡ get_or nodes at d ∷ drop
 
 pub nodes_fit : (nodes : List FormNode) (at u parts : ℕ) (under : Extent) → under ≡ under_of u parts (forms_of (drop at nodes)) → under.nodes ≤ length nodes - at
 nodes_fit nodes at u parts under e =
-    omega (arith, ap (λ (x : Extent). x.nodes) e, within parts (drop at nodes), length_dropped at nodes)
+    omega (arith, ap (λ (x : Extent). x.nodes) e, within parts (drop at nodes), length-drop at nodes)
 
 few_in-front : (n : ℕ) (f : Forms) → count_of (front n f) ≤ n
 few_in-front zero f = omega arith

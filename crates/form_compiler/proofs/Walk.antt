@@ -1,6 +1,6 @@
 -- Passing over forms by their extents.
 use Rattle.std.proofs.Common.{◌≡◌, ◌≤◌, ◌<◌, ℕ, zero, suc, ◌+◌, ◌-◌, min, List, [], ◌∷◌, length, drop, get_or, refl, ap, sym, ◌∙◌, arith, drop-cons}
-use Rattle.std.proofs.Math.Seq.{drop-nil}
+use Rattle.std.proofs.lemmas.List.{drop_all, drop-drop, length-drop}
 use Rattle.std.specs.Prelude.{pred}
 use Rattle.lisp_base.specs.Forest.{NoTrees, Tree, count_of, front, behind}
 use Rattle.lisp_program.specs.declared.form.FormNode.{FormNode}
@@ -54,18 +54,6 @@ passed (suc k) (n ∷ ns) =
 pub within : (k : ℕ) (ns : List FormNode) → nodes_in (front k (forms_of ns)) ≤ length ns
 within k ns = omega (arith, nodes_in-parts k (forms_of ns), nodes_in-all ns)
 
-pub drop_further : {T : Type 0} (m n : ℕ) (xs : List T) → drop n (drop m xs) ≡ drop (m + n) xs
-drop_further zero n xs = let e : 0 + n ≡ n = omega arith in rw e refl
-drop_further (suc m) n [] = drop-nil n ∙ sym (drop-nil (suc m + n))
-drop_further (suc m) n (x ∷ xs) =
-    let e : suc m + n ≡ suc (m + n) = omega arith in
-    rw e (drop_further m n xs)
-
-pub length_dropped : {T : Type 0} (n : ℕ) (xs : List T) → length (drop n xs) ≡ length xs - n
-length_dropped zero xs = omega arith
-length_dropped (suc n) [] = omega arith
-length_dropped (suc n) (x ∷ xs) = omega (arith, length_dropped n xs)
-
 pub extents-dropped : (j : ℕ) (ns : List FormNode) → drop j (extents_of ns) ≡ extents_of (drop j ns)
 extents-dropped zero ns = refl
 extents-dropped (suc j) [] = refl
@@ -80,7 +68,7 @@ pub known_later : (nodes : List FormNode) (extents : List Extent) (from at : ℕ
     → drop at extents ≡ extents_of (drop at nodes)
 known_later nodes extents from at known h =
     let e : at ≡ from + (at - from) = omega arith in
-    rw (e, ← drop_further from (at - from) extents, ← drop_further from (at - from) nodes, known) (extents-dropped (at - from) (drop from nodes))
+    rw (e, ← drop-drop (at - from) from extents, ← drop-drop (at - from) from nodes, known) (extents-dropped (at - from) (drop from nodes))
 
 -- an extent is that of the first of these forms
 pub record FirstOf (e : Extent) (f : Forms) : Type 0 where
@@ -101,10 +89,10 @@ first_at nodes extents at d e known h is = first_of e (drop (suc at) extents) (d
 -- the node behind the first form
 pub first_passed : (nodes : List FormNode) (at : ℕ) (e : Extent) → FirstOf e (forms_of (drop at nodes))
     → forms_of (drop (at + e.nodes) nodes) ≡ behind 1 (forms_of (drop at nodes))
-first_passed nodes at e f = rw (← drop_further at e.nodes nodes, f.nodes) (passed 1 (drop at nodes))
+first_passed nodes at e f = rw (← drop-drop e.nodes at nodes, f.nodes) (passed 1 (drop at nodes))
 
 pub first_within : (nodes : List FormNode) (at : ℕ) (e : Extent) → at ≤ length nodes → FirstOf e (forms_of (drop at nodes)) → at + e.nodes ≤ length nodes
-first_within nodes at e h f = omega (arith, f.nodes, within 1 (drop at nodes), length_dropped at nodes)
+first_within nodes at e h f = omega (arith, f.nodes, within 1 (drop at nodes), length-drop at nodes)
 
 count-front : (r : ℕ) (f : Forms) → count_of (front (suc r) f) ≡ count_of (front 1 f) + count_of (front r (behind 1 f))
 count-front r NoTrees = omega (arith, ap count_of (front_none r NoTrees refl))
@@ -198,10 +186,7 @@ walked_all nodes from parts used at forms lines w h =
     walked_by nodes from parts used at forms lines w (rw e refl)
 
 nothing_left : (nodes : List FormNode) (at : ℕ) → length nodes ≤ at → forms_of (drop at nodes) ≡ NoTrees
-nothing_left [] zero h = refl
-nothing_left [] (suc at) h = refl
-nothing_left (n ∷ ns) zero h = absurd (omega arith)
-nothing_left (n ∷ ns) (suc at) h = nothing_left ns at (omega arith)
+nothing_left nodes at h = ap forms_of (drop_all at nodes h)
 
 pub walked_out : (nodes : List FormNode) (from parts used at forms lines : ℕ) → Walking nodes from parts used at forms lines → length nodes ≤ at
     → record { lines = lines; nodes = at - from; forms = forms } ≡ under_of used parts (forms_of (drop from nodes))

@@ -12,6 +12,9 @@ use lisp_base::memory::Memory;
 use lisp_program::form::FormNode;
 use std::alloc::Global;
 
+/// No number of lines is counted further.
+const MOST_LINES: u32 = 65_537;
+
 /// How many of the forms under a form are used at most, where there are so many.
 fn used(row: &Row, parts: usize) -> usize
     ensures { result ≡ Extents.used row.now parts }
@@ -61,7 +64,7 @@ fn row_lines(row: &Row, forms: usize, lines: u32) -> u128
 fn capped(lines: u128) -> u32
     ensures { result ≡ min lines MOST }
 {
-    lines.min(65_537) as u32
+    lines.min(MOST_LINES as u128) as u32
 }
 
 /// The lines so far, with those of one form where as many more are used.

@@ -1,11 +1,10 @@
-use Rattle.std.proofs.Common.{◌≤◌, ◌-◌, ◌+◌, arith, length}
+use Rattle.std.proofs.Common.{◌+◌, arith}
 use Rattle.form_compiler.proofs.Known.{extent_made, nodes_fit}
 use Rattle.form_compiler.proofs.sizes.extent_at.Goals as goal
 
 pub overflow_add-result : goal.overflow_add-result
 overflow_add-result c =
-    let fits : c.under-under.result.nodes ≤ length c.args.nodes.now - (c.args.at + 1) = nodes_fit _ _ _ _ _ c.under-under.ensures in
-    omega (arith, fits, c.requires.inside)
+    omega (arith, c.requires.inside, nodes_fit c.args.nodes.now (c.args.at + 1) c.used.result c.index-nodes-at.result.parts c.under-under.result c.under-under.ensures)
 
 pub returns : goal.returns
 returns c =
