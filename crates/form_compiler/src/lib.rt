@@ -1,4 +1,5 @@
 //! Compiles programs: their points, laid out as code.
 #![tactic(auto)]
 
+pub mod laws;
 pub mod refusal;

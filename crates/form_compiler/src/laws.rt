@@ -1,0 +1,10 @@
+//! Laws of the points of well-made forms. There is nothing to run: the clauses are the laws.
+ghost use Rattle.lisp_program.specs.Forms.{Forms};
+ghost use Rattle.lisp_program.specs.Program.{Program};
+ghost use Rattle.lisp_program.specs.WellMade.{AreMade, Seat};
+ghost use Rattle.form_compiler.specs.inside.Gives.{AreGiving};
+
+/// Each well-made form gives one value, or what is wanted of it where it stands.
+pub fn made_forms_give()
+    ensures { (program : Program) (seat : Seat) (forms : Forms) → AreMade program seat forms → AreGiving seat forms }
+{}
