@@ -1,2 +1,3 @@
 pub mod Joined
 pub mod Gives
+pub mod Reaches
