@@ -4,3 +4,6 @@ pub mod Namings
 pub mod Sized
 pub mod Walk
 pub mod Known
+pub mod Joined
+pub mod Gives
+pub mod Reaches

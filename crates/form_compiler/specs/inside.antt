@@ -3,3 +3,5 @@ pub mod Lengths
 pub mod Seats
 pub mod Unbuilt
 pub mod Extents
+pub mod Gives
+pub mod Reaches

@@ -8,3 +8,5 @@ pub mod extent;
 mod operands;
 pub mod row;
 mod sizes;
+pub mod laws;
+pub mod refusal;
