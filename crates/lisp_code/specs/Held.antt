@@ -74,8 +74,8 @@ outside o h = without (opening_takes o) h
 abbrev pub named : ℕ → ℕ → ℕ
 named x held = max (suc x) held
 
--- How many values are held by an act: those after it, with the value that it gives. After an act after which the thread goes on elsewhere
--- there is none.
+-- How many values are held by an act: those after it, with the value that it gives. An act after which the thread goes on elsewhere gives
+-- none. So each value is counted where it is given, and a form that never gives a value holds none.
 abbrev pub held_by : Act → Holding → ℕ
 held_by (ReadLocal x) h = named x (total (one_more h))
 held_by (WriteLocal x) h = named x (total (one_more (without 1 h)))
@@ -86,6 +86,13 @@ held_by (Signal condition) h = total h
 held_by AbortThread h = total h
 held_by ReturnFromThread h = total (without 1 h)
 held_by a h = total (after_act a h)
+
+-- How many values are held by a question: those after it, with the value that it gives. The clock's reading and the beginning of a wait
+-- give none, and their operands were counted where they were given.
+abbrev pub held_at : Question → Holding → ℕ
+held_at (Serve service Clock) h = total (without (question_takes (Serve service Clock)) h)
+held_at (Serve service Begin) h = total (without (question_takes (Serve service Begin)) h)
+held_at q h = total (after_question q h)
 
 -- how many values are held in a frame that is opened
 abbrev pub held_in : Opening → Holding → ℕ

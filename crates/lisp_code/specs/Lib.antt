@@ -2,3 +2,4 @@ pub mod Held
 pub mod Lines
 pub mod Parts
 pub mod CodeOf
+pub mod Validity

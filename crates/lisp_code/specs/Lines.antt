@@ -8,7 +8,7 @@ use Rattle.form_points.specs.declared.act.Act.{Act}
 use Rattle.form_points.specs.declared.act.Act.TheVariants.{Call, Discard, Signal}
 use Rattle.form_points.specs.declared.act.Opening.{Opening}
 use Rattle.form_points.specs.declared.act.Question.{Question}
-use Rattle.lisp_code.specs.Held.{Holding, after_act, after_question, held_by, held_in, inside, one_more, outside, total, without}
+use Rattle.lisp_code.specs.Held.{Holding, after_act, after_question, held_at, held_by, held_in, inside, one_more, outside, total, without}
 use Rattle.lisp_code.specs.declared.instr.Clause.{Clause}
 
 -- a point, the end of a frame, or a jump, with the positions at which it goes on if not at the next line
@@ -118,10 +118,10 @@ abbrev pub laid : List FunctionName → Way → Holding → (position : ℕ) →
 laid names way h at Done next = next
 laid names way h at (Do a p after) next = placed (act_line names a) p h (held_by a h) ∷ laid names way (after_act a h) (suc at) after next
 laid names way h at (Ask q p after) next =
-    placed (Asks q) p h (total (after_question q h)) ∷ laid names way (after_question q h) (suc at) after next
+    placed (Asks q) p h (held_at q h) ∷ laid names way (after_question q h) (suc at) after next
 laid names way h at (Test q p more after) next =
     let end : ℕ = past (suc at) more in
-    placed (Tests q end) p h (total (after_question q h))
+    placed (Tests q end) p h (held_at q h)
       ∷ laid names no_way h (suc at) more (laid names way (after_question q h) end after next)
 laid names way h at (Choose p x y after) next =
     let low : Holding = without 1 h in

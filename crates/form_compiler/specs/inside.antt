@@ -1,0 +1,5 @@
+-- What only proofs use.
+pub mod Lengths
+pub mod Seats
+pub mod Unbuilt
+pub mod Extents
