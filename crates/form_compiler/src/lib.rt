@@ -9,4 +9,3 @@ mod operands;
 pub mod row;
 mod sizes;
 pub mod laws;
-pub mod refusal;

@@ -10,6 +10,8 @@ mod limits;
 #[cfg(test)]
 mod names;
 #[cfg(test)]
+mod primitives;
+#[cfg(test)]
 mod printing;
 #[cfg(test)]
 mod steps;

@@ -60,9 +60,9 @@ fn a_word_gives_its_value(rt: HostRuntime) {
 
 #[test]
 fn a_word_gives_its_function(rt: HostRuntime) {
-    for name in NAMES {
-        let word = Word::of_function(name);
-        assert_eq!(rt; word.function(), Some(name));
+    for name in NAMES.iter() {
+        let word = Word::of_function(*name);
+        assert_eq!(rt; word.function(), Some(*name));
         assert_eq!(rt; word.value(), None);
     }
 }
