@@ -5,3 +5,4 @@ pub mod Flat
 pub mod Made
 pub mod Lowering
 pub mod Written
+pub mod Standing
