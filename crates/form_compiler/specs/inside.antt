@@ -5,3 +5,5 @@ pub mod Unbuilt
 pub mod Extents
 pub mod Gives
 pub mod Reaches
+pub mod Marks
+pub mod Tasks

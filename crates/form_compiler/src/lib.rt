@@ -2,10 +2,13 @@
 #![tactic(auto)]
 
 mod lengths;
+pub mod hold;
+pub mod mark;
 mod names;
 mod unbuilt;
 pub mod extent;
 mod operands;
 pub mod row;
 mod sizes;
+pub mod task;
 pub mod laws;
