@@ -7,3 +7,6 @@ pub mod Known
 pub mod Joined
 pub mod Gives
 pub mod Reaches
+pub mod Taken
+pub mod Scheduled
+pub mod Choices

@@ -322,3 +322,20 @@ module _ (names : List FunctionName) where
   schedule (k.WithDeadline seconds replaces) s ts = deadline_tasks seconds replaces s ts
   schedule k.AbortThread s ts = alone_tasks act.AbortThread s ts
   schedule k.ReturnFromThread s ts = acting 1 act.ReturnFromThread s ts
+
+-- The second part of a form begins there: the second branch of an `if`, and the cleanup of an `unwind-protect`, where these forms are left.
+abbrev pub IsSecond : CoreKind → Site → Forms → Type 0
+IsSecond k.If s f = s.second ≡ suc (past (suc (past s.at (part s.forms 0 f))) (part (less s.forms) 0 (part_left s.forms f)))
+IsSecond k.UnwindProtect s f = s.second ≡ suc (past (suc s.at) (part s.forms 0 f))
+IsSecond kind s f = Unit {0}
+
+-- a form of this kind is laid out by its tasks alone; a `handler-case` has a line with clauses before them
+abbrev pub IsLight : CoreKind → Type 0
+IsLight k.HandlerCase = ⊥
+IsLight kind = Unit {0}
+
+-- a clause goes along its way, and there is no way for another form
+abbrev pub IsOnWay : CoreKind → Way → Type 0
+IsOnWay (k.Clause class) way = Unit {0}
+IsOnWay (k.ClauseWith class x) way = Unit {0}
+IsOnWay kind way = way ≡ no_way
