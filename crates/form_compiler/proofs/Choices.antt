@@ -87,7 +87,7 @@ module _ (names : List FunctionName) where
       ∙ guarded_so s.place s.at s.second h t (body_of s.place (points_of more)) _ b ts (behind-beside more b) (rw c at q))
 
   -- a frame after an operand
-  after_one : (o : Opening) (s : Site) (h : Holding) (at : ℕ) (t : Points) (u b : Forms) (ts : List Task) → Ones u → rise h t ≡ one_more h
+  pub after_one : (o : Opening) (s : Site) (h : Holding) (at : ℕ) (t : Points) (u b : Forms) (ts : List Task) → Ones u → rise h t ≡ one_more h
       → s.end ≡ past at (joined t (Enter o s.place (body_of s.place (points_of u)) Done))
       → laid names no_way h at t (run names (past at t) (framed names o (count_of u) s (one_more h) ts) (beside_of u b))
       ≡ laid names no_way h at (joined t (Enter o s.place (body_of s.place (points_of u)) Done)) (run names (past at (joined t (Enter o s.place (body_of s.place (points_of u)) Done))) ts b)

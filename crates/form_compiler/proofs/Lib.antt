@@ -10,3 +10,4 @@ pub mod Reaches
 pub mod Taken
 pub mod Scheduled
 pub mod Choices
+pub mod Tasked
