@@ -4,3 +4,4 @@
 pub mod code;
 pub mod instr;
 pub mod operands;
+pub mod valid;
