@@ -65,9 +65,8 @@ inside (Block b) h = one_open h
 inside (WithoutInterrupts r) h = one_open h
 inside o h = without (opening_takes o) h
 
--- what is held round it, without the value of its body
+-- what is held round it, without the value of its body, which takes away all operands that a binding gives it
 abbrev pub outside : Opening → Holding → Holding
-outside (Bind s above) h = without 1 h
 outside o h = without (opening_takes o) h
 
 -- a variable that is named counts as open

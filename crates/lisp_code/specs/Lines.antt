@@ -140,7 +140,7 @@ laid names way h at (Turn p test body after) next = laid names way h at after ne
 laid names way h at (Enter o p body after) next =
     let leave : ℕ = past (suc at) body in
     placed (Enters o (suc leave)) p h (held_in o h)
-    ∷ laid names no_way (inside o h) (suc at) body (placed Leaves p (one_more (inside o h)) (total (outside o h))
+    ∷ laid names no_way (inside o h) (suc at) body (placed Leaves p (one_more (outside o h)) (total (outside o h))
     ∷ laid names way (one_more (outside o h)) (suc leave) after next)
 laid names way h at (Protect p body cleanup after) next =
     let turn : ℕ = past (suc at) body in

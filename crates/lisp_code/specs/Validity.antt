@@ -83,7 +83,7 @@ goings rows at h (Branch to) = on (suc at) (h - 1) ∷ (on to (h - 1) ∷ [])
 goings rows at h (LoopTest to) = on (suc at) (h - 1) ∷ (on to h ∷ [])
 goings rows at h (Jump to) = on to h ∷ []
 goings rows at h (Enter o back) =
-    on (suc at) (replaced (opening_takes o) (opening_leaves o) h) ∷ (on back (suc (replaced (opening_takes o) (opening_leaves o) h)) ∷ [])
+    on (suc at) (replaced (opening_takes o) (opening_leaves o) h) ∷ (on back (replaced (opening_takes o) 1 h) ∷ [])
 goings rows at h (EnterProtect cleanup) = on (suc at) h ∷ (on cleanup h ∷ [])
 goings rows at h (EnterHandler row) = on (suc at) h ∷ map (clause_going h) (row_of rows row)
 goings rows at h Leave = []

@@ -210,6 +210,14 @@ pub fn opening_leaves(opening: &Opening) -> u32
     }
 }
 
+/// How many operands there are in the frame that a point opens.
+pub fn height_inside(opening: &Opening, height: u32) -> u64
+    ensures value { result ≡ replaced (opening_takes opening.now) (opening_leaves opening.now) height }
+    ensures limit { result < 2 ^ 33 }
+{
+    replaced(opening_takes(opening), opening_leaves(opening), height)
+}
+
 /// How many operands an instruction takes.
 pub fn takes_of(instr: &Instr) -> u64
     ensures { result ≡ takes_of instr.now }

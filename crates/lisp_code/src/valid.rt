@@ -9,7 +9,7 @@ ghost use Rattle.lisp_code.specs.declared.instr.Instr.TheVariants.{Leave};
 use crate::code::{CodeParts, FunctionCode};
 use crate::instr::{Clause, Instr};
 use crate::operands::{
-    act_leaves, act_takes, is_exit, left_by, opening_leaves, opening_takes, question_leaves,
+    act_leaves, act_takes, height_inside, is_exit, left_by, opening_takes, question_leaves,
     question_takes, replaced, takes_of,
 };
 use form_points::act::{Act, Opening, Question};
@@ -143,8 +143,9 @@ fn goes_on(parts: &CodeParts, at: usize, height: u32, instr: &Instr) -> bool
         Instr::LoopTest(to) => lies(parts, Landing::after(at, lower))
             && lies(parts, Landing::of(*to, here)),
         Instr::Enter(opening, back) => {
-            let inside = replaced(opening_takes(opening), opening_leaves(opening), height);
-            lies(parts, Landing::after(at, inside)) && lies(parts, Landing::of(*back, inside + 1))
+            let after = replaced(opening_takes(opening), 1, height);
+            lies(parts, Landing::after(at, height_inside(opening, height)))
+                && lies(parts, Landing::of(*back, after))
         }
         Instr::EnterProtect(cleanup) => lies(parts, Landing::after(at, here))
             && lies(parts, Landing::of(*cleanup, here)),
