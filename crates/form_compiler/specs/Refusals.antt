@@ -1,6 +1,10 @@
 -- When a program is not compiled, and why.
-use Rattle.std.specs.Prelude.{ℕ, List, [], ◌∷◌, Bool, true, false, Option, Some, None, if◌then◌else◌, nat_lt, length, min}
+use Rattle.std.specs.Prelude.{◌≡◌, ℕ, List, [], ◌∷◌, Bool, true, false, Option, Some, None, if◌then◌else◌, nat_lt, length, min}
 use Rattle.lisp_base.specs.Forest.{NoTrees, Tree}
+use Rattle.lisp_base.specs.declared.refusal.Refusal.{Refusal}
+use Rattle.lisp_base.specs.declared.refusal.Refusal.TheVariants.{NotBuilt, CodeTooLong, HeightTooLarge}
+use Rattle.lisp_base.specs.declared.refusal.Rejection.{Rejection}
+use Rattle.lisp_base.specs.declared.refusal.Rejection.TheVariants.{Refused, Memory}
 use Rattle.lisp_program.specs.Forms.{Forms}
 use Rattle.lisp_program.specs.Program.{Function, Program}
 use Rattle.lisp_program.specs.declared.form.CoreKind.{CoreKind}
@@ -9,8 +13,6 @@ use Rattle.lisp_program.specs.declared.function.Primitive.{Primitive}
 use Rattle.lisp_program.specs.declared.function.Primitive.TheVariants as f
 use Rattle.lisp_base.specs.declared.id.FunctionName.{FunctionName}
 use Rattle.lisp_code.specs.CodeOf.{Stretch, height_of, main_lines, most_held, names_of, program_lines, stretches_of}
-use Rattle.form_compiler.specs.declared.refusal.CompileRefusal.{CompileRefusal}
-use Rattle.form_compiler.specs.declared.refusal.CompileRefusal.TheVariants.{NotBuilt, CodeTooLong, HeightTooLarge}
 
 -- Which functions with local points are run. What other threads are comes later.
 abbrev pub is_run : Primitive → Bool
@@ -82,16 +84,25 @@ height_refused p =
     let names : List FunctionName = names_of (stretches_of p) in
     if nat_lt most_values (most_held (main_lines names p [])) then Some 0 else too_high names (stretches_of p)
 
--- the refusal at a place, where there is one
-abbrev pub refused_at : (ℕ → CompileRefusal) → Option ℕ → Option CompileRefusal → Option CompileRefusal
-refused_at refusal (Some p) next = Some (refusal p)
-refused_at refusal None next = next
+-- this refusal at this place
+abbrev pub at : Refusal → ℕ → Rejection
+at refusal p = Refused refusal p
 
--- The refusal of a program for its size: its code is too long, or else a call would hold too many values at once.
-abbrev pub size_refusal : Program → Option CompileRefusal
+-- the refusal at a place, where there is one, and else another
+abbrev pub refused_at : Refusal → Option ℕ → Option Rejection → Option Rejection
+refused_at refusal (Some p) other = Some (at refusal p)
+refused_at refusal None other = other
+
+-- The refusal of a program for its size, where there is one: its code is too long, or else a call would hold too many values at once.
+abbrev pub size_refusal : Program → Option Rejection
 size_refusal p =
-    if nat_lt most_instructions (length (program_lines p)) then Some CodeTooLong else refused_at HeightTooLarge (height_refused p) None
+    if nat_lt most_instructions (length (program_lines p)) then Some (at CodeTooLong 0) else refused_at HeightTooLarge (height_refused p) None
 
--- The refusal of a program: a form of it is not run, or else it is refused for its size.
-abbrev pub compile_refusal : Program → Option CompileRefusal
+-- The refusal of a program, where there is one: a form of it is not run, or else it is refused for its size.
+abbrev pub compile_refusal : Program → Option Rejection
 compile_refusal p = refused_at NotBuilt (unbuilt_of p) (size_refusal p)
+
+-- what is said of a program that is not compiled is that refusal; nothing is said where memory runs out
+abbrev pub IsRefusalOf : Option Rejection → Rejection → Type 0
+IsRefusalOf refusal Memory = Unit {0}
+IsRefusalOf refusal r = refusal ≡ Some r

@@ -2,8 +2,8 @@
 use Rattle.std.proofs.Common.{◌≡◌, ℕ, zero, suc, ◌+◌, ◌<◌, ◌≤◌, min, List, [], ◌∷◌, Bool, true, false, cond, nat_lt, length, drop, slice_get, refl, ap, sym, ◌∙◌, arith, add-one}
 use Rattle.std.proofs.lemmas.Bool.Decides.{nat_tests}
 use Rattle.std.specs.Prelude.{unwrap_or}
+use Rattle.lisp_base.specs.Value.{nil}
 use Rattle.lisp_base.specs.declared.value.Node.{Node}
-use Rattle.plain_program.specs.Points.{nil}
 use Rattle.binding_stack.specs.Stack.{Bound, kept}
 use Rattle.thread_semantics.specs.Acts.{top}
 use Rattle.form_evaluator.proofs.Advances.{drop-one_more}

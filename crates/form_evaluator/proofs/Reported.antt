@@ -1,6 +1,6 @@
 -- What a run that is over leaves is the report of its last configuration.
 use Rattle.std.proofs.Common.{◌≡◌, ℕ, List, [], ◌∷◌, map, refl, ap, sym, ◌∙◌}
-use Rattle.plain_program.specs.Points.{nil}
+use Rattle.lisp_base.specs.Value.{nil}
 use Rattle.plain_program.specs.Program.{PlainProgram}
 use Rattle.thread_semantics.specs.State.{FrameKind, BindFrame, Frame, ThreadState}
 use Rattle.run_semantics.specs.declared.report.FrameWord.TheVariants.{Bind}

@@ -2,8 +2,8 @@ ghost use Rattle.std.specs.Prelude.{◌≡◌, ◌+◌, ◌^◌, ◌<◌, [], �
 ghost use Rattle.binding_stack.specs.Stack.{word_of};
 ghost use Rattle.form_evaluator.specs.inside.Evaluator.{Stands};
 ghost use Rattle.form_evaluator.specs.inside.Moves.{shown_after, signalled, ended_now, asked_after, read_at, written_at, bound_at, opened_in, left_frame, popped_frame, unbound_to, room_in, next_shown, asked_of, local_after, counted, question_reply_after, test_reply_after, reply_after};
+ghost use Rattle.lisp_base.specs.Value.{nil};
 ghost use Rattle.lisp_base.specs.declared.condition.Class.{Class};
-ghost use Rattle.plain_program.specs.Points.{nil};
 ghost use Rattle.thread_semantics.specs.State.{ThreadState};
 ghost use Rattle.thread_semantics.specs.Acts.{top, sum_of, result_of};
 ghost use Rattle.thread_semantics.specs.Step.{next_of, local_step_of, after_reply};

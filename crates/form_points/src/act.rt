@@ -1,7 +1,7 @@
-use lisp_program::function::{Primitive, Printing, Service};
 use lisp_base::condition::Condition;
 use lisp_base::id::{FunctionName, SymbolId};
 use lisp_base::value::Value;
+use lisp_program::function::{Primitive, Printing, Service};
 
 /// A local point that opens no frame. Operands are the values at hand, the newest first.
 #[derive(Clone, Copy, Debug, PartialEq, Eq)]

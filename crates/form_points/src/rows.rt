@@ -37,10 +37,10 @@ pub fn what_is_missing_is_nil()
 pub fn services_are_some_points()
     ensures wait { points_of (Tree (k.Serve (service.ConditionWait false)) 0 (Tree (k.Local 0) 1 NoTrees (Tree (k.Local 1) 2 NoTrees NoTrees)) NoTrees)
         ≡ Do (act.ReadLocal 0) 1 (Do (act.ReadLocal 1) 2 (Ask (question.Serve (service.ConditionWait false) step.Begin) 0
-            (Test (question.Serve (service.ConditionWait false) step.Wake) 0 (Ask (question.Serve (service.ConditionWait false) step.Regrab) 0 Done) Done))) ∷ [] }
+        (Test (question.Serve (service.ConditionWait false) step.Wake) 0 (Ask (question.Serve (service.ConditionWait false) step.Regrab) 0 Done) Done))) ∷ [] }
     ensures timed { points_of (Tree (k.Serve (service.ConditionWait true)) 0 (Tree (k.Local 0) 1 NoTrees (Tree (k.Local 1) 2 NoTrees (Tree (k.Local 2) 3 NoTrees NoTrees))) NoTrees)
         ≡ Do (act.ReadLocal 0) 1 (Do (act.ReadLocal 1) 2 (Do (act.ReadLocal 2) 3 (Test (question.Serve (service.ConditionWait true) step.Clock) 0 (Ask (question.Serve (service.ConditionWait true) step.Begin) 0 Done)
-            (Test (question.Serve (service.ConditionWait true) step.Wake) 0 (Ask (question.Serve (service.ConditionWait true) step.Regrab) 0 Done) Done)))) ∷ [] }
+        (Test (question.Serve (service.ConditionWait true) step.Wake) 0 (Ask (question.Serve (service.ConditionWait true) step.Regrab) 0 Done) Done)))) ∷ [] }
     ensures tries { points_of (Tree (k.Serve (service.GrabMutex true false)) 0 (Tree (k.Local 0) 1 NoTrees (Tree (k.Local 1) 2 NoTrees NoTrees)) NoTrees)
         ≡ Do (act.ReadLocal 0) 1 (Do (act.ReadLocal 1) 2 (Test (question.Serve (service.GrabMutex true false) step.Try) 0 (Ask (question.Serve (service.GrabMutex true false) step.Main) 0 Done) Done)) ∷ [] }
 {}

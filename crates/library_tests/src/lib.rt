@@ -10,6 +10,10 @@ mod limits;
 #[cfg(test)]
 mod names;
 #[cfg(test)]
+mod primitives;
+#[cfg(test)]
 mod printing;
 #[cfg(test)]
 mod steps;
+#[cfg(test)]
+mod words;

@@ -1,3 +1,4 @@
 mod Classes
 mod Refusals
 pub mod Writing
+pub mod Words

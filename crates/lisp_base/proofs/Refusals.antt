@@ -2,7 +2,7 @@
 use Rattle.std.proofs.Common.{◌≡◌, refl, sym, ap, ◌∙◌, ℕ, ◌==◌, if◌then◌else◌}
 use Rattle.lisp_base.specs.Refusals.{NumbersDiffer, refusal_number}
 use Rattle.lisp_base.specs.declared.refusal.Refusal.{Refusal}
-use Rattle.lisp_base.specs.declared.refusal.Refusal.TheVariants.{NotUtf8, EndInside, UnmatchedClose, BadToken, NumberTooLarge, TooDeep, TooLong, TooManySymbols, TooManyTexts, NotBuilt, UnknownOperator, BadForm, UnknownVariable, FunctionPlace, RegionOutside, NoSuchBlock, TooMany, DefinedTwice}
+use Rattle.lisp_base.specs.declared.refusal.Refusal.TheVariants.{NotUtf8, EndInside, UnmatchedClose, BadToken, NumberTooLarge, TooDeep, TooLong, TooManySymbols, TooManyTexts, NotBuilt, UnknownOperator, BadForm, UnknownVariable, FunctionPlace, RegionOutside, NoSuchBlock, TooMany, DefinedTwice, CodeTooLong, HeightTooLarge}
 
 -- the refusal with this number
 abbrev with_number : ℕ → Refusal
@@ -24,7 +24,9 @@ with_number n =
     else if n == 15 then RegionOutside
     else if n == 16 then NoSuchBlock
     else if n == 17 then TooMany
-    else DefinedTwice
+    else if n == 18 then DefinedTwice
+    else if n == 21 then CodeTooLong
+    else HeightTooLarge
 
 -- a refusal is the one with its number
 back : (a : Refusal) → with_number (refusal_number a) ≡ a
@@ -46,6 +48,8 @@ back RegionOutside = refl
 back NoSuchBlock = refl
 back TooMany = refl
 back DefinedTwice = refl
+back CodeTooLong = refl
+back HeightTooLarge = refl
 
 pub numbers_differ : NumbersDiffer
 numbers_differ a b h = sym (back a) ∙ ap with_number h ∙ back b

@@ -7,3 +7,5 @@ pub mod Timers
 pub mod Limits
 pub mod Refusals
 pub mod Writing
+pub mod Operands
+pub mod inside

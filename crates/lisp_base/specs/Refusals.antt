@@ -1,7 +1,7 @@
 -- The numbers and the names of refusals.
 use Rattle.std.specs.Prelude.{◌≡◌, ℕ, List, Bool, ◌==◌, codes}
 use Rattle.lisp_base.specs.declared.refusal.Refusal.{Refusal}
-use Rattle.lisp_base.specs.declared.refusal.Refusal.TheVariants.{NotUtf8, EndInside, UnmatchedClose, BadToken, NumberTooLarge, TooDeep, TooLong, TooManySymbols, TooManyTexts, NotBuilt, UnknownOperator, BadForm, UnknownVariable, FunctionPlace, RegionOutside, NoSuchBlock, TooMany, DefinedTwice}
+use Rattle.lisp_base.specs.declared.refusal.Refusal.TheVariants.{NotUtf8, EndInside, UnmatchedClose, BadToken, NumberTooLarge, TooDeep, TooLong, TooManySymbols, TooManyTexts, NotBuilt, UnknownOperator, BadForm, UnknownVariable, FunctionPlace, RegionOutside, NoSuchBlock, TooMany, DefinedTwice, CodeTooLong, HeightTooLarge}
 
 -- the number of a refusal, which is written before its name
 abbrev pub refusal_number : Refusal → ℕ
@@ -23,6 +23,8 @@ refusal_number RegionOutside = 15
 refusal_number NoSuchBlock = 16
 refusal_number TooMany = 17
 refusal_number DefinedTwice = 18
+refusal_number CodeTooLong = 21
+refusal_number HeightTooLarge = 22
 
 -- the name of a refusal, as it is written
 abbrev pub refusal_name : Refusal → List ℕ
@@ -44,6 +46,8 @@ refusal_name RegionOutside = codes "RegionOutside"
 refusal_name NoSuchBlock = codes "NoSuchBlock"
 refusal_name TooMany = codes "TooMany"
 refusal_name DefinedTwice = codes "DefinedTwice"
+refusal_name CodeTooLong = codes "CodeTooLong"
+refusal_name HeightTooLarge = codes "HeightTooLarge"
 
 -- two refusals are the same: they have one number
 abbrev pub are_same : Refusal → Refusal → Bool

@@ -9,4 +9,5 @@ pub mod refusal;
 pub mod sequence;
 pub mod text_writer;
 pub mod value;
+pub mod word;
 pub mod writer;

@@ -44,6 +44,10 @@ pub enum Refusal {
     TooMany,
     /// A name is defined or bound twice.
     DefinedTwice,
+    /// The code of the program would be longer than it may be.
+    CodeTooLong,
+    /// A function, or the top level, would hold more values at once than it may.
+    HeightTooLarge,
 }
 
 impl Refusal {
@@ -70,6 +74,8 @@ impl Refusal {
             Refusal::NoSuchBlock => 16,
             Refusal::TooMany => 17,
             Refusal::DefinedTwice => 18,
+            Refusal::CodeTooLong => 21,
+            Refusal::HeightTooLarge => 22,
         }
     }
 
@@ -96,6 +102,8 @@ impl Refusal {
             Refusal::NoSuchBlock => "NoSuchBlock",
             Refusal::TooMany => "TooMany",
             Refusal::DefinedTwice => "DefinedTwice",
+            Refusal::CodeTooLong => "CodeTooLong",
+            Refusal::HeightTooLarge => "HeightTooLarge",
         }
     }
 

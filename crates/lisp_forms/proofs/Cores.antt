@@ -1,9 +1,10 @@
 -- The forms and the functions of an expansion, from its nodes.
-use Rattle.std.proofs.Common.{◌≡◌, ℕ, suc, ◌+◌, ◌<◌, ◌≤◌, List, [], ◌∷◌, ◌++◌, Bool, true, false, if◌then◌else◌, length, get_or, drop, refl, ap, sym, ◌∙◌, arith, append_assoc, append-nil, add-one, drop-cons}
+use Rattle.std.proofs.Common.{◌≡◌, ℕ, suc, ◌+◌, ◌<◌, ◌≤◌, List, [], ◌∷◌, ◌++◌, Bool, true, false, if◌then◌else◌, length, get_or, drop, map, refl, ap, sym, ◌∙◌, arith, append_assoc, append-nil, add-one, drop-cons}
 use Rattle.std.proofs.Math.ListN.{drop_of_length-le}
+use Rattle.std.proofs.lemmas.List.{map-append}
 use Rattle.lisp_base.specs.Forest.{Forest, NoTrees, Tree, behind, count_of, front, append}
 use Rattle.lisp_program.specs.Forms.{Forms, forms_of, preorder}
-use Rattle.lisp_program.specs.Program.{Function}
+use Rattle.lisp_program.specs.Program.{FlatFunction, Function}
 use Rattle.lisp_program.specs.declared.form.CoreKind.{CoreKind}
 use Rattle.lisp_program.specs.declared.form.CoreKind.TheVariants.{Block as BlockForm}
 use Rattle.lisp_program.specs.declared.form.FormNode.{FormNode}
@@ -11,10 +12,11 @@ use Rattle.form_shapes.specs.declared.expanded.Expanded.{Expanded}
 use Rattle.form_shapes.specs.declared.expanded.Expanded.TheVariants.{Form, InBlock, Lambda, Defun, Refused, RefusedFunction}
 use Rattle.form_shapes.specs.declared.expanded.ExpandedNode.{ExpandedNode}
 use Rattle.lisp_forms.specs.inside.Flat.{flat, node}
+use Rattle.lisp_forms.specs.inside.Functions.{flat_function, flat_of, function_here}
 use Rattle.lisp_forms.specs.Program.{core_forms, core_kind, functions_of, with_block, with_function}
 use Rattle.lisp_forms.specs.Blocks.{is_function}
 use Rattle.lisp_forms.specs.Trees.{Expansion}
-use Rattle.lisp_forms.specs.inside.Written.{block_node, core_here, core_node, cores_in, function_here, is_done, left_behind, skipped_behind}
+use Rattle.lisp_forms.specs.inside.Written.{block_node, core_here, core_node, cores_in, is_done, left_behind, skipped_behind}
 
 -- the first so many of two forests are the first
 front-append : {K : Type 0} (f g : Forest K) → front (count_of f) (append f g) ≡ f
@@ -167,47 +169,40 @@ pub cores_end : (skipped left i : ℕ) (ns : List ExpandedNode) (now all : List 
 cores_end skipped left i ns now all h so_far = sym (append-nil now) ∙ sym (ap (λ ms. now ++ cores_in skipped left ms) (drop_of_length-le ns {i = i} h)) ∙ so_far
 
 -- the functions among nodes
-abbrev pub functions_in : List ExpandedNode → List Function
+abbrev pub functions_in : List ExpandedNode → List FlatFunction
 functions_in [] = []
 functions_in (n ∷ ns) = function_here n ns ++ functions_in ns
 
 -- a function in front of others
-function-first : (kind : Expanded) (p : ℕ) (body : Forms) (fs : List Function) → with_function kind p body [] ++ fs ≡ with_function kind p body fs
-function-first (Form kind) p body fs = refl
-function-first (InBlock n turning) p body fs = refl
-function-first (Lambda parameters) p body fs = refl
-function-first (Defun f parameters) p body fs = refl
-function-first (Refused refusal) p body fs = refl
-function-first (RefusedFunction refusal) p body fs = refl
-
-function-append : (kind : Expanded) (p : ℕ) (body : Forms) (fs gs : List Function) → with_function kind p body fs ++ gs ≡ with_function kind p body (fs ++ gs)
-function-append (Form kind) p body fs gs = refl
-function-append (InBlock n turning) p body fs gs = refl
-function-append (Lambda parameters) p body fs gs = refl
-function-append (Defun f parameters) p body fs gs = refl
-function-append (Refused refusal) p body fs gs = refl
-function-append (RefusedFunction refusal) p body fs gs = refl
+function-first : (kind : Expanded) (p : ℕ) (body : Forms) (fs : List Function) (gs : List FlatFunction)
+    → flat_of kind p (preorder body) ++ (map flat_function fs ++ gs) ≡ map flat_function (with_function kind p body fs) ++ gs
+function-first (Form kind) p body fs gs = refl
+function-first (InBlock n turning) p body fs gs = refl
+function-first (Lambda parameters) p body fs gs = refl
+function-first (Defun f parameters) p body fs gs = refl
+function-first (Refused refusal) p body fs gs = refl
+function-first (RefusedFunction refusal) p body fs gs = refl
 
 -- the functions of the nodes are those of the forms
-functions-all : (e : Expansion) (rest : List ExpandedNode) → functions_in (flat e ++ rest) ≡ functions_of e ++ functions_in rest
+functions-all : (e : Expansion) (rest : List ExpandedNode) → functions_in (flat e ++ rest) ≡ map flat_function (functions_of e) ++ functions_in rest
 functions-all NoTrees rest = refl
 functions-all (Tree kind p under beside) rest =
     let rests : List ExpandedNode = flat beside ++ rest in
-    let split : (flat under ++ flat beside) ++ rest ≡ flat under ++ rests = append_assoc (flat under) (flat beside) rest in
-    let body : forms_of (cores_in 0 (count_of under) (flat under ++ rests)) ≡ core_forms under =
-    ap forms_of (cores-front (count_of under) under (flat under ++ rests) rests refl refl) ∙ forms_back (core_forms under) in
-    ap (λ ns. function_here (node kind p (count_of under)) ns ++ functions_in ns) split
-    ∙ ap (λ b. with_function kind p b [] ++ functions_in (flat under ++ rests)) body
-    ∙ function-first kind p (core_forms under) (functions_in (flat under ++ rests))
-    ∙ ap (with_function kind p (core_forms under))
-    (functions-all under rests ∙ ap (λ fs. functions_of under ++ fs) (functions-all beside rest) ∙ sym (append_assoc (functions_of under) (functions_of beside) (functions_in rest)))
-    ∙ sym (function-append kind p (core_forms under) (functions_of under ++ functions_of beside) (functions_in rest))
+    let inner : List FlatFunction = map flat_function (functions_of under) in
+    let outer : List FlatFunction = map flat_function (functions_of beside) in
+    let others : functions_in (flat under ++ rests) ≡ map flat_function (functions_of under ++ functions_of beside) ++ functions_in rest =
+    functions-all under rests ∙ ap (λ fs. inner ++ fs) (functions-all beside rest) ∙ sym (append_assoc inner outer (functions_in rest))
+    ∙ ap (λ fs. fs ++ functions_in rest) (sym (map-append flat_function (functions_of under) (functions_of beside))) in
+    ap (λ ns. function_here (node kind p (count_of under)) ns ++ functions_in ns) (append_assoc (flat under) (flat beside) rest)
+    ∙ ap (λ b. flat_of kind p b ++ functions_in (flat under ++ rests)) (cores-front (count_of under) under (flat under ++ rests) rests refl refl)
+    ∙ ap (λ fs. flat_of kind p (preorder (core_forms under)) ++ fs) others
+    ∙ function-first kind p (core_forms under) (functions_of under ++ functions_of beside) (functions_in rest)
 
-pub functions-flat : (e : Expansion) (ns : List ExpandedNode) → ns ≡ flat e → functions_in ns ≡ functions_of e
-functions-flat e ns h = ap functions_in (h ∙ sym (append-nil (flat e))) ∙ functions-all e [] ∙ append-nil (functions_of e)
+pub functions-flat : (e : Expansion) (ns : List ExpandedNode) → ns ≡ flat e → functions_in ns ≡ map flat_function (functions_of e)
+functions-flat e ns h = ap functions_in (h ∙ sym (append-nil (flat e))) ∙ functions-all e [] ∙ append-nil (map flat_function (functions_of e))
 
 -- one more is written, or none
-pub functions_next : (ns behind : List ExpandedNode) (i : ℕ) (n : ExpandedNode) (now new all : List Function) → i < length ns → n ≡ get_or ns i n → behind ≡ drop (i + 1) ns
+pub functions_next : (ns behind : List ExpandedNode) (i : ℕ) (n : ExpandedNode) (now new all : List FlatFunction) → i < length ns → n ≡ get_or ns i n → behind ≡ drop (i + 1) ns
     → new ≡ now ++ function_here n behind → now ++ functions_in (drop i ns) ≡ all → new ++ functions_in (drop (i + 1) ns) ≡ all
 functions_next ns behind i n now new all h is others pushed so_far =
     let rest : List ExpandedNode = drop (i + 1) ns in
@@ -217,7 +212,7 @@ functions_next ns behind i n now new all h is others pushed so_far =
     ∙ so_far
 
 -- none is left
-pub functions_end : (i : ℕ) (ns : List ExpandedNode) (e : Expansion) (now : List Function) → length ns ≤ i → now ++ functions_in (drop i ns) ≡ functions_in ns → ns ≡ flat e
-    → now ≡ functions_of e
+pub functions_end : (i : ℕ) (ns : List ExpandedNode) (e : Expansion) (now : List FlatFunction) → length ns ≤ i → now ++ functions_in (drop i ns) ≡ functions_in ns → ns ≡ flat e
+    → now ≡ map flat_function (functions_of e)
 functions_end i ns e now h so_far is =
     sym (append-nil now) ∙ sym (ap (λ ms. now ++ functions_in ms) (drop_of_length-le ns {i = i} h)) ∙ so_far ∙ functions-flat e ns is

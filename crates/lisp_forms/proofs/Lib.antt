@@ -20,3 +20,4 @@ pub mod Nesting
 pub mod Bodied
 pub mod Locked
 pub mod Functions
+pub mod well

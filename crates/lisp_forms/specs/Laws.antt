@@ -1,9 +1,12 @@
--- Which refusal of an expansion is told.
-use Rattle.std.specs.Prelude.{◌≡◌, ◌⊎◌, false, Option, Some, None, Contains}
+-- Which refusal of an expansion is told, and that an accepted program is well made.
+use Rattle.std.specs.Prelude.{◌≡◌, ◌⊎◌, ℕ, List, false, Option, Some, None, Contains}
 use Rattle.lisp_base.specs.Forest.{NoTrees, Tree}
 use Rattle.lisp_base.specs.declared.refusal.Refusal.TheVariants.{TooMany}
 use Rattle.lisp_base.specs.declared.refusal.Refused.{Refused}
-use Rattle.lisp_forms.specs.Program.{before, comes_before, function_places, most_functions, program_refusal, refusal_of}
+use Rattle.lisp_program.specs.Program.{Program}
+use Rattle.lisp_program.specs.WellMade.{IsWellMade}
+use Rattle.lisp_data.specs.Data.{Data}
+use Rattle.lisp_forms.specs.Program.{Expands, before, comes_before, function_places, most_functions, program_refusal, refusal_of}
 use Rattle.lisp_forms.specs.Trees.{Expansion}
 
 -- some form of these is refused for this reason at this place
@@ -27,3 +30,7 @@ IsTold (Some told) e = IsRefusalIn told e × ((r : Refused) → IsRefusalIn r e 
 -- the refusal that comes first is told, of whatever expansion
 abbrev pub FirstIsTold : Type 0
 FirstIsTold = (e : Expansion) → IsTold (program_refusal e) e
+
+-- an accepted program is well made
+abbrev pub ProgramsAreWellMade : Type 0
+ProgramsAreWellMade = (names texts : List (List ℕ)) (ds : List Data) (program : Program) → Expands names texts ds program → IsWellMade program

@@ -5,3 +5,5 @@ pub mod Flat
 pub mod Made
 pub mod Lowering
 pub mod Written
+pub mod Functions
+pub mod Standing

@@ -1,6 +1,7 @@
-ghost use Rattle.std.specs.Prelude.{◌≡◌, ◌++◌, None, IfOk, OnOk};
+ghost use Rattle.std.specs.Prelude.{◌≡◌, ◌++◌, None, All, IfOk, OnOk};
 ghost use Rattle.std.specs.Result.{IfErr};
-ghost use Rattle.lisp_program.specs.Program.{AreWhole, program_of};
+ghost use Rattle.lisp_program.specs.Program.{AreWhole, FlatFunction, program_of};
+ghost use Rattle.lisp_program.specs.WellMade.{IsWellMade};
 ghost use Rattle.lisp_forms.specs.inside.Flat.{flat};
 ghost use Rattle.lisp_forms.specs.Program;
 ghost use Rattle.lisp_forms.specs.Trees.{Expansion};
@@ -149,8 +150,9 @@ fn program_refusal(alloc: Global, nodes: &[ExpandedNode]) -> Result<Option<Refus
     Ok(earlier(found.refusal, limit))
 }
 
-/// The program that data stand for, where these are the names of its symbols and the texts of its string literals. It errs with what
-/// is refused of the data, by the least place and there by the least number of a refusal, and where memory runs out.
+/// The program that data stand for, where these are the names of its symbols and the texts of its string literals. It is well made,
+/// and its nodes are those of whole forms. It errs with what is refused of the data, by the least place and there by the least number
+/// of a refusal, and where memory runs out.
 pub fn expand(
     alloc: Global,
     program: &[Datum],
@@ -159,6 +161,8 @@ pub fn expand(
 ) -> Result<form::Program, Rejection>
     ensures expanded { IfOk result (λ p. Program.Expands symbols.now texts.now program.now (program_of p)) }
     ensures whole { IfOk result (λ p. AreWhole p.main) }
+    ensures bodies { IfOk result (λ p. All (λ (f : FlatFunction). AreWhole f.body) p.functions) }
+    ensures made { IfOk result (λ p. IsWellMade (program_of p)) }
     ensures refused { IfErr result (Program.IsRefusal symbols.now texts.now program.now) }
 {
     let specials = variables(alloc, symbols, program)?;

@@ -1,10 +1,10 @@
 ghost use Rattle.std.specs.Prelude.{◌≡◌, ◌++◌, ◌∷◌, [], ◌+◌, ◌^◌, ◌<◌, IfOk, OnOk, map};
 ghost use Rattle.lisp_base.specs.Forest.{count_of};
-ghost use Rattle.lisp_program.specs.Forms.{forms_of, preorder};
-ghost use Rattle.lisp_program.specs.Program.{function_of};
+ghost use Rattle.lisp_program.specs.Forms.{preorder};
 ghost use Rattle.lisp_forms.specs.inside.Flat.{flat};
+ghost use Rattle.lisp_forms.specs.inside.Functions.{flat_function, function_here};
 ghost use Rattle.lisp_forms.specs.Program;
-ghost use Rattle.lisp_forms.specs.inside.Written.{block_node, core_here, core_node, cores_in, function_here, is_done, left_behind};
+ghost use Rattle.lisp_forms.specs.inside.Written.{block_node, core_here, core_node, cores_in, is_done, left_behind};
 ghost use Rattle.lisp_forms.specs.Trees.{Expansion};
 
 use crate::blocks::{is_function, skipped_behind};
@@ -122,7 +122,7 @@ fn push_named(
     after: &[ExpandedNode],
     functions: &mut Vec<FunctionForm>,
 ) -> Result<(), Memory>
-    ensures { OnOk result (map function_of functions.new.items ≡ map function_of functions.old.items ++ (record { name = name; place = node.now.place; params = params; body = forms_of (cores_in 0 node.now.parts after.now) }) ∷ []) }
+    ensures { OnOk result (functions.new.items ≡ functions.old.items ++ (record { name = name; place = node.now.place; params = params; body = cores_in 0 node.now.parts after.now }) ∷ []) }
 {
     let body = core_forms(alloc, node.parts as u64, after)?;
     functions.push(FunctionForm::of(name, node.place, params, body))?;
@@ -136,7 +136,7 @@ fn push_function(
     after: &[ExpandedNode],
     functions: &mut Vec<FunctionForm>,
 ) -> Result<(), Memory>
-    ensures { OnOk result (map function_of functions.new.items ≡ map function_of functions.old.items ++ function_here node.now after.now) }
+    ensures { OnOk result (functions.new.items ≡ functions.old.items ++ function_here node.now after.now) }
 {
     match node.kind {
         Expanded::Lambda(params) => {
@@ -165,7 +165,7 @@ fn push_function(
 
 /// The functions among these nodes.
 fn functions_of(alloc: Global, nodes: &[ExpandedNode]) -> Result<Vec<FunctionForm>, Memory>
-    ensures { IfOk result (λ functions. (e : Expansion) → nodes.now ≡ flat e → map function_of functions.items ≡ Program.functions_of e) }
+    ensures { IfOk result (λ functions. (e : Expansion) → nodes.now ≡ flat e → functions.items ≡ map flat_function (Program.functions_of e)) }
 {
     let mut functions = Vec::new(alloc);
     for (index, node) in nodes.iter().enumerate() {
@@ -180,7 +180,7 @@ pub fn split(
     count: usize,
     nodes: &[ExpandedNode],
 ) -> Result<(Vec<FormNode>, Vec<FunctionForm>), Memory>
-    ensures { IfOk result (λ parts. (e : Expansion) → nodes.now ≡ flat e → count ≡ count_of e → (parts.0.items ≡ preorder (Program.core_forms e)) × (map function_of parts.1.items ≡ Program.functions_of e)) }
+    ensures { IfOk result (λ parts. (e : Expansion) → nodes.now ≡ flat e → count ≡ count_of e → (parts.0.items ≡ preorder (Program.core_forms e)) × (parts.1.items ≡ map flat_function (Program.functions_of e))) }
 {
     let main = core_forms(alloc, count as u64, nodes)?;
     let functions = functions_of(alloc, nodes)?;

@@ -1,16 +1,17 @@
 -- What is written of forms so far.
-use Rattle.std.proofs.Common.{◌≡◌, ℕ, zero, suc, ◌+◌, ◌<◌, ◌≤◌, ◌≢◌, ◌⊎◌, inl, inr, List, [], ◌∷◌, ◌++◌, Bool, true, false, length, drop, get_or, refl, ap, sym, ◌∙◌, arith, append_assoc, add-one, drop-cons}
+use Rattle.std.proofs.Common.{◌≡◌, ℕ, zero, suc, ◌+◌, ◌<◌, ◌≤◌, ◌≢◌, ◌⊎◌, inl, inr, List, [], ◌∷◌, ◌++◌, Bool, true, false, length, take, drop, get_or, refl, ap, sym, ◌∙◌, arith, append_assoc, add-one, drop-cons}
 use Rattle.lisp_base.specs.Forest.{Forest, NoTrees, Tree, count_of, front, behind}
+use Rattle.lisp_base.specs.Value.{nil}
 use Rattle.plain_program.specs.declared.act.Question.TheVariants.{EndThread}
 use Rattle.plain_program.specs.declared.act.Act.TheVariants.{Push, Discard}
 use Rattle.plain_program.specs.declared.form.PlainKind.{PlainKind}
 use Rattle.plain_program.specs.declared.form.PlainNode.{PlainNode}
 use Rattle.plain_program.specs.Forms.{PlainForms, forms_of, node_in_front}
-use Rattle.plain_program.specs.Points.{Points, Done, Do, Ask, joined, body_of, points_of, table, nil}
+use Rattle.plain_program.specs.Points.{Points, Done, Do, Ask, joined, body_of, operands, points_of, table}
 use Rattle.plain_program.specs.declared.steps.Step.{Step}
 use Rattle.plain_program.specs.declared.steps.Step.TheVariants.{Act, Ask as AskStep}
 use Rattle.plain_program.specs.inside.Steps.{steps_of}
-use Rattle.plain_program.specs.inside.Flatten.{strung, Writes, between, body_steps, under_steps, opening_steps, closing_steps}
+use Rattle.plain_program.specs.inside.Flatten.{strung, Writes, between, body_steps, operand_steps, under_steps, opening_steps, closing_steps}
 use Rattle.plain_program.proofs.Closed.{append-nil, closed_steps}
 use Rattle.plain_program.proofs.Joined.{steps_of-joined}
 
@@ -150,6 +151,11 @@ strung_body p f [] = refl
 strung_body p f (g ∷ fs) =
     ap (λ s. steps_of f ++ (Act Discard ∷ s)) (strung_body p g fs) ∙ sym (steps_of-joined f (Do Discard p (body_of p (g ∷ fs))))
 
+-- what stands behind a front that is kept is taken away
+take-front : {T : Type 0} (xs ys : List T) → take (length xs) (xs ++ ys) ≡ xs
+take-front [] ys = refl
+take-front (x ∷ xs) ys = ap (λ zs. x ∷ zs) (take-front xs ys)
+
 -- no form is wanted, or there
 nothing_at : (nodes : List PlainNode) (from count : ℕ) → (count ≡ 0) ⊎ (length nodes ≤ from) → front count (forms_of (drop from nodes)) ≡ NoTrees
 nothing_at nodes from count (inl e) = rw e refl
@@ -188,6 +194,57 @@ body_written nodes from (suc n) old new next some h w =
       within = w.within;
       steps = w.steps ∙ ap (λ s. old ++ s) (strung_forms n (forms_of (drop from nodes)) (some_form nodes from h));
       rest = w.rest;
+    }
+
+-- one NIL more stands behind the others
+nils_more : (n : ℕ) → operand_steps (suc n) [] ≡ operand_steps n [] ++ Act (Push nil) ∷ []
+nils_more zero = refl
+nils_more (suc n) = ap (λ s. Act (Push nil) ∷ s) (nils_more n)
+
+-- one NIL more is written
+pub nil_more : (n : ℕ) (old now new : List Step) → now ≡ old ++ operand_steps n [] → new ≡ now ++ Act (Push nil) ∷ []
+    → new ≡ old ++ operand_steps (n + 1) []
+nil_more n old now new is e =
+    let longer : new ≡ (old ++ operand_steps n []) ++ Act (Push nil) ∷ [] = rw is at e in
+    rw (add-one n, nils_more n, ← append_assoc) longer
+
+-- what was written of forms is taken away again
+pub passed_over : (nodes : List PlainNode) (from count : ℕ) (old mid new : List Step) (next : ℕ) → Writes nodes from count (strung false) old mid next
+    → new ≡ take (length old) mid → Writes nodes from count (operand_steps 0) old new next
+passed_over nodes from count old mid new next w e =
+    record { after = w.after; within = w.within; steps = e ∙ ap (take (length old)) w.steps ∙ take-front old _ ∙ sym (append-nil old); rest = w.rest }
+
+-- of the operands that are wanted no form is there
+pub operands_missing : (nodes : List PlainNode) (from count n : ℕ) (old new : List Step) → from ≤ length nodes → (count ≡ 0) ⊎ (length nodes ≤ from)
+    → new ≡ old ++ operand_steps n [] → Writes nodes from count (operand_steps n) old new from
+operands_missing nodes from count n old new within none e =
+    let empty : front count (forms_of (drop from nodes)) ≡ NoTrees = nothing_at nodes from count none in
+    record { after = omega arith; within = within; steps = rw empty e; rest = sym (behind_at nodes from count none) }
+
+-- a first form, and those behind it, as operands
+operands_by : (f beside : PlainForms) (old mid new : List Step) (n later : ℕ) → f ≢ NoTrees → mid ≡ old ++ strung false (points_of (front 1 f))
+    → new ≡ mid ++ operand_steps n (points_of (front later beside)) → beside ≡ behind 1 f
+    → new ≡ old ++ operand_steps (suc n) (points_of (front (suc later) f))
+operands_by NoTrees beside old mid new n later some m e r = absurd (some refl)
+operands_by (Tree k p under others) beside old mid new n later some m e r =
+    let form : Points = table k p (points_of under) in
+    let next : List Step = operand_steps n (points_of (front later others)) in
+    let shorter : mid ≡ old ++ steps_of form = m ∙ ap (λ s. old ++ s) (append-nil (steps_of form)) in
+    let all : new ≡ (old ++ steps_of form) ++ next = rw (r, shorter) at e in
+    all ∙ append_assoc old (steps_of form) next ∙ ap (λ s. old ++ s) (sym (steps_of-joined form (operands n 0 (points_of (front later others)))))
+
+-- one operand is written, and then the others
+pub operands_written : (nodes : List PlainNode) (from count n : ℕ) (old mid new : List Step) (at next later fewer : ℕ)
+    → count ≡ suc later → n ≡ suc fewer → from < length nodes → Writes nodes from 1 (strung false) old mid at
+    → Writes nodes at later (operand_steps fewer) mid new next → Writes nodes from count (operand_steps n) old new next
+operands_written nodes from count n old mid new at next later fewer c k h f w =
+    let before : behind later (forms_of (drop at nodes)) ≡ behind (suc later) (forms_of (drop from nodes)) =
+    rw f.rest (sym (behind-next later (forms_of (drop from nodes)))) in
+    record {
+      after = omega (arith, f.after, w.after);
+      within = w.within;
+      steps = rw (c, k) (operands_by (forms_of (drop from nodes)) (forms_of (drop at nodes)) old mid new fewer later (some_form nodes from h) f.steps w.steps f.rest);
+      rest = rw c (w.rest ∙ before);
     }
 
 -- all forms of main are written, and its end

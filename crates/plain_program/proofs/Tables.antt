@@ -1,21 +1,24 @@
 -- The points of plain forms in the whole table.
-use Rattle.std.proofs.Common.{◌≡◌, ℕ, List, [], ◌∷◌, Option, Some, None, map, min, refl, ap, ◌∙◌}
+use Rattle.std.proofs.Common.{◌≡◌, ℕ, zero, suc, List, [], ◌∷◌, Option, Some, None, map, min, refl, ap, ◌∙◌}
 use Rattle.lisp_base.specs.Forest.{NoTrees, Tree}
-use Rattle.lisp_program.specs.declared.act.Question.TheVariants.{IsBound}
+use Rattle.lisp_base.specs.Value.{nil}
+use Rattle.form_points.specs.declared.act.Question.TheVariants.{IsBound}
 use Rattle.lisp_program.specs.declared.form.CoreKind.{CoreKind}
 use Rattle.lisp_program.specs.declared.form.CoreKind.TheVariants.{Constant as CoreConstant, Special as CoreSpecial, SetSpecial, Defvar as CoreDefvar, Progn as CoreProgn, Let as CoreLet, BindSpecial, Apply, Print as CorePrint}
 use Rattle.lisp_program.specs.declared.function.Primitive.{Primitive}
 use Rattle.lisp_program.specs.declared.function.Primitive.TheVariants.{Add as TheSum}
 use Rattle.lisp_program.specs.declared.function.Printing.{Printing}
 use Rattle.lisp_program.specs.declared.function.Printing.TheVariants.{Print as ThePrint}
-use Rattle.lisp_program.specs.Points.{Do as WholeDo, Ask as WholeAsk, Test as WholeTest, Enter as WholeEnter, all_of as whole_all_of, body_of as whole_body_of, joined as whole_joined, table as whole_table}
-use Rattle.plain_program.specs.declared.act.Act.TheVariants.{Discard, Add}
+use Rattle.form_points.specs.Operands.{operands as whole_operands}
+use Rattle.form_points.specs.Points.{Do as WholeDo, Ask as WholeAsk, Test as WholeTest, Enter as WholeEnter, all_of as whole_all_of, body_of as whole_body_of, joined as whole_joined}
+use Rattle.form_points.specs.Table.{table as whole_table}
+use Rattle.plain_program.specs.declared.act.Act.TheVariants.{Push, Discard, Add}
 use Rattle.plain_program.specs.declared.act.Question.TheVariants.{Print as AskPrint, Write, Define, EndThread}
 use Rattle.plain_program.specs.declared.act.Opening.TheVariants.{Bind as OpenBind}
 use Rattle.plain_program.specs.declared.form.PlainKind.{PlainKind}
 use Rattle.plain_program.specs.declared.form.PlainKind.TheVariants.{Constant, Plus, Print, Progn, Special, Setq, Defvar, Let, Bind}
 use Rattle.plain_program.specs.Plain.{first_unbuilt, kind_of, kind_or_nil, least, place_without, plain_kind, plain_primitive, plain_printing}
-use Rattle.plain_program.specs.Points.{Points, Done, Do, Ask, Test, Enter, all_of, body_of, joined, points_of, table}
+use Rattle.plain_program.specs.Points.{Points, Done, Do, Ask, Test, Enter, all_of, body_of, joined, operands, points_of, table}
 use Rattle.plain_program.specs.Table.{OneMain, OneTable, SameForms, whole_act, whole_opening, whole_points, whole_question}
 
 -- points one after the other
@@ -39,19 +42,26 @@ whole-body p (f ∷ (g ∷ fs)) =
     whole-joined f (Do Discard p (body_of p (g ∷ fs)))
     ∙ ap (λ rest. whole_joined (whole_points f) (WholeDo (whole_act Discard) p rest)) (whole-body p (g ∷ fs))
 
--- the points of each in turn, and then those
-whole-all-then : (fs : List Points) (y : Points) → whole_points (joined (all_of fs) y) ≡ whole_joined (whole_all_of (map whole_points fs)) (whole_points y)
-whole-all-then fs y = whole-joined (all_of fs) y ∙ ap (λ x. whole_joined x (whole_points y)) (whole-all fs)
+-- operands
+whole-operands : (n p : ℕ) (fs : List Points) → whole_points (operands n p fs) ≡ whole_operands n p (map whole_points fs)
+whole-operands zero p fs = refl
+whole-operands (suc n) p [] = ap (WholeDo (whole_act (Push nil)) p) (whole-operands n p [])
+whole-operands (suc n) p (f ∷ fs) = whole-joined f (operands n p fs) ∙ ap (whole_joined (whole_points f)) (whole-operands n p fs)
+
+-- operands, and then those points
+whole-then : (n p : ℕ) (fs : List Points) (y : Points)
+    → whole_points (joined (operands n p fs) y) ≡ whole_joined (whole_operands n p (map whole_points fs)) (whole_points y)
+whole-then n p fs y = whole-joined (operands n p fs) y ∙ ap (λ x. whole_joined x (whole_points y)) (whole-operands n p fs)
 
 -- one line of the table
 whole-table : (k : PlainKind) (p : ℕ) (fs : List Points) → whole_points (table k p fs) ≡ whole_table (kind_of k) p (map whole_points fs)
 whole-table (Constant v) p fs = refl
-whole-table Plus p fs = whole-all-then fs (Do Add p Done)
-whole-table Print p fs = whole-all-then fs (Ask AskPrint p Done)
+whole-table Plus p fs = whole-then 2 p fs (Do Add p Done)
+whole-table Print p fs = whole-then 1 p fs (Ask AskPrint p Done)
 whole-table Progn p fs = whole-body p fs
 whole-table (Special s) p fs = refl
-whole-table (Setq s) p fs = whole-all-then fs (Ask (Write s) p Done)
-whole-table (Defvar s) p fs = ap (λ value. WholeTest (IsBound s) p value (whole_points Done)) (whole-all-then fs (Ask (Define s) p Done))
+whole-table (Setq s) p fs = whole-then 1 p fs (Ask (Write s) p Done)
+whole-table (Defvar s) p fs = ap (λ value. WholeTest (IsBound s) p value (whole_points Done)) (whole-then 1 p fs (Ask (Define s) p Done))
 whole-table Let p fs = whole-all fs
 whole-table (Bind s above) p fs = ap (λ body. WholeEnter (whole_opening (OpenBind s above)) p body (whole_points Done)) (whole-body p fs)
 

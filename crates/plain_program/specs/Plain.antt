@@ -1,6 +1,7 @@
 -- Which core forms are run, and which plain forms they are.
 use Rattle.std.specs.Prelude.{ℕ, Option, Some, None, min}
 use Rattle.lisp_base.specs.Forest.{Forest, NoTrees, Tree}
+use Rattle.lisp_base.specs.Value.{nil}
 use Rattle.lisp_program.specs.declared.form.CoreKind.{CoreKind}
 use Rattle.lisp_program.specs.declared.form.CoreKind.TheVariants.{Constant as CoreConstant, Special as CoreSpecial, SetSpecial, Defvar as CoreDefvar, Progn as CoreProgn, Let as CoreLet, BindSpecial, Apply, Print as CorePrint}
 use Rattle.lisp_program.specs.declared.function.Primitive.{Primitive}
@@ -12,7 +13,6 @@ use Rattle.lisp_program.specs.Program.{Program}
 use Rattle.plain_program.specs.declared.form.PlainKind.{PlainKind}
 use Rattle.plain_program.specs.declared.form.PlainKind.TheVariants.{Constant, Plus, Print, Progn, Special, Setq, Defvar, Let, Bind}
 use Rattle.plain_program.specs.Forms.{PlainForms}
-use Rattle.plain_program.specs.Points.{nil}
 use Rattle.plain_program.specs.Program.{PlainProgram}
 
 -- the core kind that a plain kind is

@@ -1,8 +1,7 @@
 -- The points of each form, in order.
-use Rattle.std.specs.Prelude.{ℕ, List, [], ◌∷◌}
+use Rattle.std.specs.Prelude.{ℕ, zero, suc, List, [], ◌∷◌}
 use Rattle.lisp_base.specs.Forest.{NoTrees, Tree}
-use Rattle.lisp_base.specs.declared.value.Node.{Node}
-use Rattle.lisp_base.specs.declared.value.Node.TheVariants.{Symbol}
+use Rattle.lisp_base.specs.Value.{nil}
 use Rattle.plain_program.specs.declared.act.Act.{Act}
 use Rattle.plain_program.specs.declared.act.Act.TheVariants.{Push, Discard, Add}
 use Rattle.plain_program.specs.declared.act.Question.{Question}
@@ -12,10 +11,6 @@ use Rattle.plain_program.specs.declared.act.Opening.TheVariants.{Bind as OpenBin
 use Rattle.plain_program.specs.declared.form.PlainKind.{PlainKind}
 use Rattle.plain_program.specs.declared.form.PlainKind.TheVariants.{Constant, Plus, Print, Progn, Special, Setq, Defvar, Let, Bind}
 use Rattle.plain_program.specs.Forms.{PlainForms}
-
--- NIL is the symbol 0
-abbrev pub nil : Node
-nil = Symbol 0
 
 -- What a thread has still to do in a stretch: nothing more, or one point and what comes after it. A point has the place
 -- of the form that it belongs to. Where a stretch in a frame is done, one more point leaves the frame.
@@ -48,22 +43,28 @@ body_of p [] = Do (Push nil) p Done
 body_of p (f ∷ []) = f
 body_of p (f ∷ (g ∷ fs)) = joined f (Do Discard p (body_of p (g ∷ fs)))
 
+-- the points of the first n forms, with the constant NIL for one that is missing; other forms are passed over
+abbrev pub operands : ℕ → ℕ → List Points → Points
+operands zero p fs = Done
+operands (suc n) p [] = Do (Push nil) p (operands n p [])
+operands (suc n) p (f ∷ fs) = joined f (operands n p fs)
+
 -- the points of a form of this kind at this place, from the points of the forms under it
 abbrev pub table : PlainKind → ℕ → List Points → Points
 -- a constant is 1 point
 table (Constant v) p fs = Do (Push v) p Done
 -- a sum: its arguments, and 1 point
-table Plus p fs = joined (all_of fs) (Do Add p Done)
+table Plus p fs = joined (operands 2 p fs) (Do Add p Done)
 -- `print`: its argument, and the operation `out`
-table Print p fs = joined (all_of fs) (Ask AskPrint p Done)
+table Print p fs = joined (operands 1 p fs) (Ask AskPrint p Done)
 -- `progn`: its forms as a body
 table Progn p fs = body_of p fs
 -- a special variable is 1 point
 table (Special s) p fs = Ask (Read s) p Done
 -- `setq`: its value, and 1 point
-table (Setq s) p fs = joined (all_of fs) (Ask (Write s) p Done)
+table (Setq s) p fs = joined (operands 1 p fs) (Ask (Write s) p Done)
 -- `defvar`: the operation `boundp`; where the reply is NIL, its value and the operation `set`
-table (Defvar s) p fs = Test s p (joined (all_of fs) (Ask (Define s) p Done)) Done
+table (Defvar s) p fs = Test s p (joined (operands 1 p fs) (Ask (Define s) p Done)) Done
 -- `let`: the values in order; then 1 point for each variable in order, the body, and 1 point for each variable, last first
 table Let p fs = all_of fs
 table (Bind s above) p fs = Enter (OpenBind s above) p (body_of p fs) Done

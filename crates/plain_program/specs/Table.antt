@@ -1,15 +1,16 @@
 -- The points of plain forms in the whole table, so that only the whole table has to be believed.
 use Rattle.std.specs.Prelude.{◌≡◌, map, None}
-use Rattle.lisp_program.specs.declared.act.Act.{Act as WholeAct}
-use Rattle.lisp_program.specs.declared.act.Act.TheVariants.{Push as WholePush, Discard as WholeDiscard, Apply}
-use Rattle.lisp_program.specs.declared.act.Opening.{Opening as WholeOpening}
-use Rattle.lisp_program.specs.declared.act.Opening.TheVariants.{Bind as WholeBind}
-use Rattle.lisp_program.specs.declared.act.Question.{Question as WholeQuestion}
-use Rattle.lisp_program.specs.declared.act.Question.TheVariants.{Print as WholePrint, Read as WholeRead, Write as WholeWrite, Define as WholeDefine, IsBound, EndThread as WholeEnd}
+use Rattle.form_points.specs.declared.act.Act.{Act as WholeAct}
+use Rattle.form_points.specs.declared.act.Act.TheVariants.{Push as WholePush, Discard as WholeDiscard, Apply}
+use Rattle.form_points.specs.declared.act.Opening.{Opening as WholeOpening}
+use Rattle.form_points.specs.declared.act.Opening.TheVariants.{Bind as WholeBind}
+use Rattle.form_points.specs.declared.act.Question.{Question as WholeQuestion}
+use Rattle.form_points.specs.declared.act.Question.TheVariants.{Print as WholePrint, Read as WholeRead, Write as WholeWrite, Define as WholeDefine, IsBound, EndThread as WholeEnd}
 use Rattle.lisp_program.specs.declared.function.Primitive.TheVariants.{Add as TheSum}
 use Rattle.lisp_program.specs.declared.function.Printing.TheVariants.{Print as ThePrint}
 use Rattle.lisp_program.specs.Forms.{Forms}
-use Rattle.lisp_program.specs.Points.{Points as WholePoints, Done as WholeDone, Do as WholeDo, Ask as WholeAsk, Test as WholeTest, Enter as WholeEnter, points_of as whole_points_of, main_points as whole_main_points}
+use Rattle.form_points.specs.Points.{Points as WholePoints, Done as WholeDone, Do as WholeDo, Ask as WholeAsk, Test as WholeTest, Enter as WholeEnter}
+use Rattle.form_points.specs.Table.{points_of as whole_points_of, main_points as whole_main_points}
 use Rattle.plain_program.specs.declared.act.Act.{Act}
 use Rattle.plain_program.specs.declared.act.Act.TheVariants.{Push, Discard, Add}
 use Rattle.plain_program.specs.declared.act.Opening.{Opening}

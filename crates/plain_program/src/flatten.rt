@@ -1,8 +1,9 @@
 ghost use Rattle.std.specs.Prelude.{◌≡◌, ◌++◌, ◌∷◌, [], ◌+◌, ◌<◌, ◌≤◌, false, drop, length, OnOk, IfOk};
+ghost use Rattle.lisp_base.specs.Value.{nil};
 ghost use Rattle.plain_program.specs.Forms.{forms_of};
-ghost use Rattle.plain_program.specs.Points.{main_points, nil};
+ghost use Rattle.plain_program.specs.Points.{main_points};
 ghost use Rattle.plain_program.specs.inside.Steps.{steps_of};
-ghost use Rattle.plain_program.specs.inside.Flatten.{Writes, strung, body_steps, under_steps, between};
+ghost use Rattle.plain_program.specs.inside.Flatten.{Writes, strung, body_steps, operand_steps, under_steps, between};
 
 use crate::act::{Act, Question};
 use crate::form::{PlainKind, PlainNode};
@@ -84,16 +85,62 @@ fn push_under(
     ensures { IfOk result (Writes nodes.now from count (under_steps kind) steps.old.items steps.new.items) }
 {
     match kind {
-        PlainKind::Constant(_) => push_forms(nodes, from, count, false, steps),
-        PlainKind::Plus => push_forms(nodes, from, count, false, steps),
-        PlainKind::Print => push_forms(nodes, from, count, false, steps),
+        PlainKind::Constant(_) => push_operands(nodes, from, count, 0, steps),
+        PlainKind::Plus => push_operands(nodes, from, count, 2, steps),
+        PlainKind::Print => push_operands(nodes, from, count, 1, steps),
         PlainKind::Progn => push_body(nodes, from, count, steps),
-        PlainKind::Special(_) => push_forms(nodes, from, count, false, steps),
-        PlainKind::Setq(_) => push_forms(nodes, from, count, false, steps),
-        PlainKind::Defvar(_) => push_forms(nodes, from, count, false, steps),
+        PlainKind::Special(_) => push_operands(nodes, from, count, 0, steps),
+        PlainKind::Setq(_) => push_operands(nodes, from, count, 1, steps),
+        PlainKind::Defvar(_) => push_operands(nodes, from, count, 1, steps),
         PlainKind::Let => push_forms(nodes, from, count, false, steps),
         PlainKind::Bind(_, _) => push_body(nodes, from, count, steps),
     }
+}
+
+/// Writes the steps of the first `wanted` of the next `count` forms, and NIL for each that is missing.
+#[tactic(auto, using(crate::proofs::Flattened::operands_missing, crate::proofs::Flattened::operands_written))]
+#[cycle(forms)]
+fn push_operands(
+    nodes: &[PlainNode],
+    from: usize,
+    count: usize,
+    wanted: usize,
+    steps: &mut Vec<Step>,
+) -> Result<usize, Memory>
+    requires { from ≤ length nodes.now }
+    ensures { IfOk result (Writes nodes.now from count (operand_steps wanted) steps.old.items steps.new.items) }
+{
+    if wanted == 0 {
+        return Ok(pass_over(nodes, from, count, steps)?);
+    }
+    if count == 0 {
+        push_nils(wanted, steps)?;
+        return Ok(from);
+    }
+    if from == nodes.len() {
+        push_nils(wanted, steps)?;
+        return Ok(from);
+    }
+    let next = push_form(nodes, from, steps)?;
+    Ok(push_operands(nodes, next, count - 1, wanted - 1, steps)?)
+}
+
+/// Passes over the next `count` forms, of which nothing stays written.
+#[tactic(auto, using(crate::proofs::Flattened::passed_over))]
+#[cycle(forms)]
+fn pass_over(
+    nodes: &[PlainNode],
+    from: usize,
+    count: usize,
+    steps: &mut Vec<Step>,
+) -> Result<usize, Memory>
+    requires { from ≤ length nodes.now }
+    ensures { IfOk result (Writes nodes.now from count (operand_steps 0) steps.old.items steps.new.items) }
+{
+    let start = steps.as_slice().len();
+    let next = push_forms(nodes, from, count, false, steps)?;
+    steps.truncate(start);
+    Ok(next)
 }
 
 /// Writes the steps of the next `count` forms as a body.
@@ -117,6 +164,17 @@ fn push_body(
         return Ok(from);
     }
     Ok(push_forms(nodes, from, count, true, steps)?)
+}
+
+/// Writes the constant NIL so many times.
+#[tactic(auto, using(crate::proofs::Flattened::nil_more))]
+fn push_nils(count: usize, steps: &mut Vec<Step>) -> Result<(), Memory>
+    ensures { OnOk result (steps.new.items ≡ steps.old.items ++ operand_steps count []) }
+{
+    for _done in 0..count {
+        push_nil(steps)?;
+    }
+    Ok(())
 }
 
 /// Writes the constant NIL.

@@ -1,5 +1,5 @@
 //! A form's own steps, before those of the forms under it and after them.
-ghost use Rattle.std.specs.Prelude.{◌≡◌, ◌++◌, ◌∷◌, [], ◌+◌, ◌<◌, ◌≤◌, take, length, OnOk};
+ghost use Rattle.std.specs.Prelude.{◌≡◌, ◌++◌, ◌∷◌, [], ◌+◌, ◌<◌, ◌≤◌, length, OnOk};
 ghost use Rattle.plain_program.specs.inside.Flatten.{opening_steps, closing_steps};
 
 use crate::act::{Act, Opening, Question};
@@ -28,15 +28,11 @@ pub fn push_closing(node: &PlainNode, start: usize, steps: &mut Vec<Step>) -> Re
     ensures { OnOk result (steps.new.items ≡ closing_steps node.now.kind start steps.old.items) }
 {
     match node.kind {
-        PlainKind::Constant(value) => push_in_place(Step::Act(Act::Push(value)), start, steps),
+        PlainKind::Constant(value) => push_one(Step::Act(Act::Push(value)), steps),
         PlainKind::Plus => push_one(Step::Act(Act::Add), steps),
         PlainKind::Print => push_one(Step::Ask(Question::Print), steps),
         PlainKind::Progn | PlainKind::Let => Ok(()),
-        PlainKind::Special(symbol) => push_in_place(
-            Step::Ask(Question::Read(symbol)),
-            start,
-            steps,
-        ),
+        PlainKind::Special(symbol) => push_one(Step::Ask(Question::Read(symbol)), steps),
         PlainKind::Setq(symbol) => push_one(Step::Ask(Question::Write(symbol)), steps),
         PlainKind::Defvar(symbol) => push_defined(symbol, start, steps),
         PlainKind::Bind(_, _) => push_one(Step::Leave, steps),
@@ -47,15 +43,6 @@ pub fn push_closing(node: &PlainNode, start: usize, steps: &mut Vec<Step>) -> Re
 fn push_one(step: Step, steps: &mut Vec<Step>) -> Result<(), Memory>
     ensures { OnOk result (steps.new.items ≡ steps.old.items ++ step ∷ []) }
 {
-    steps.extend_from_slice(&[step])?;
-    Ok(())
-}
-
-/// Puts one step in the place of all steps from `start` on.
-fn push_in_place(step: Step, start: usize, steps: &mut Vec<Step>) -> Result<(), Memory>
-    ensures { OnOk result (steps.new.items ≡ take start steps.old.items ++ step ∷ []) }
-{
-    steps.truncate(start);
     steps.extend_from_slice(&[step])?;
     Ok(())
 }

@@ -1,6 +1,6 @@
 -- The report of a last configuration.
 use Rattle.std.specs.Prelude.{ℕ, List, [], ◌∷◌, Bool, true, false, if◌then◌else◌, nat_lt}
-use Rattle.plain_program.specs.Points.{nil}
+use Rattle.lisp_base.specs.Value.{nil}
 use Rattle.world_semantics.specs.declared.phase.Phase.{Phase}
 use Rattle.thread_semantics.specs.State.{FrameKind, BindFrame, Frame, Control, At, Exit, Ended, ThreadState}
 use Rattle.run_semantics.specs.declared.report.FrameWord.{FrameWord}

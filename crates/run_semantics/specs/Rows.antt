@@ -1,12 +1,12 @@
 -- Worked programs with their journals and reports.
 use Rattle.std.specs.Prelude.{ℕ, pos, List, [], ◌∷◌, Some, None, false}
 use Rattle.lisp_base.specs.Forest.{NoTrees, Tree}
+use Rattle.lisp_base.specs.Value.{nil}
 use Rattle.lisp_base.specs.declared.condition.Class.TheVariants.{IntegerRange}
 use Rattle.lisp_base.specs.declared.id.Actor.TheVariants.{Thread}
 use Rattle.lisp_base.specs.declared.value.Node.{Node}
 use Rattle.lisp_base.specs.declared.value.Node.TheVariants.{Int}
 use Rattle.plain_program.specs.Forms.{PlainForms}
-use Rattle.plain_program.specs.Points.{nil}
 use Rattle.plain_program.specs.Program.{PlainProgram}
 use Rattle.plain_program.specs.declared.form.PlainKind.TheVariants.{Constant, Plus, Print, Special, Setq, Defvar, Let, Bind}
 use Rattle.world_semantics.specs.declared.entry.Entry.{Entry}

@@ -1,13 +1,12 @@
 -- What local points do to the values at hand.
 use Rattle.std.specs.Prelude.{ℤ, ◌+ℤ◌, List, [], ◌∷◌, Option, Some, None, Result, Ok, Err, if◌then◌else◌, drop}
-use Rattle.lisp_base.specs.Value.{is_integer}
+use Rattle.lisp_base.specs.Value.{is_integer, nil}
 use Rattle.lisp_base.specs.declared.condition.Class.{Class}
 use Rattle.lisp_base.specs.declared.condition.Class.TheVariants.{TypeError, IntegerRange}
 use Rattle.lisp_base.specs.declared.value.Node.{Node}
 use Rattle.lisp_base.specs.declared.value.Node.TheVariants.{Int}
 use Rattle.plain_program.specs.declared.act.Act.{Act}
 use Rattle.plain_program.specs.declared.act.Act.TheVariants.{Push, Discard, Add}
-use Rattle.plain_program.specs.Points.{nil}
 
 -- the first value, or NIL where there is none
 abbrev pub top : List Node → Node

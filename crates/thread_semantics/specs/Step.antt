@@ -1,5 +1,6 @@
 -- What a thread does next, and its state after that.
 use Rattle.std.specs.Prelude.{ℕ, zero, suc, ◌+◌, ◌-◌, List, [], ◌∷◌, Option, Some, None, Result, Ok, Err, Bool, true, false, ◌&&◌, nat_lt, unwrap_or, slice_get, length, take, drop}
+use Rattle.lisp_base.specs.Value.{nil}
 use Rattle.lisp_base.specs.declared.condition.Class.{Class}
 use Rattle.lisp_base.specs.declared.condition.Class.TheVariants.{UnboundVariable, StorageCondition}
 use Rattle.lisp_base.specs.declared.condition.Condition.{Condition}
@@ -10,7 +11,7 @@ use Rattle.plain_program.specs.declared.act.Opening.{Opening}
 use Rattle.plain_program.specs.declared.act.Opening.TheVariants.{Bind}
 use Rattle.plain_program.specs.declared.act.Question.{Question}
 use Rattle.plain_program.specs.declared.act.Question.TheVariants.{Print as AskPrint, Read, Write, Define, EndThread}
-use Rattle.plain_program.specs.Points.{Points, Done, Do, Ask, Test, Enter, joined, nil}
+use Rattle.plain_program.specs.Points.{Points, Done, Do, Ask, Test, Enter, joined}
 use Rattle.world_semantics.specs.declared.op.Op.{Op}
 use Rattle.world_semantics.specs.declared.op.Op.TheVariants.{Get, Set, Boundp, Out, Finish}
 use Rattle.world_semantics.specs.declared.op.Printed.TheVariants.{Print}

@@ -1,12 +1,12 @@
 -- What the steps of the evaluator do to it.
 use Rattle.std.specs.Prelude.{ℕ, suc, ◌+◌, List, [], ◌∷◌, ◌++◌, Bool, true, false, ◌&&◌, nat_lt, Option, Some, None, Result, Ok, Err, unwrap_or, slice_get, length, take, drop}
+use Rattle.lisp_base.specs.Value.{nil}
 use Rattle.lisp_base.specs.declared.condition.Class.{Class}
 use Rattle.lisp_base.specs.declared.condition.Class.TheVariants.{UnboundVariable, StorageCondition}
 use Rattle.lisp_base.specs.declared.value.Node.{Node}
 use Rattle.lisp_base.specs.declared.value.Node.TheVariants.{Symbol}
 use Rattle.environment_semantics.specs.Environment.{held_at, stored}
 use Rattle.binding_stack.specs.Stack.{word_of, with_binding, kept}
-use Rattle.plain_program.specs.Points.{nil}
 use Rattle.plain_program.specs.declared.act.Opening.{Opening}
 use Rattle.plain_program.specs.declared.act.Opening.TheVariants.{Bind}
 use Rattle.plain_program.specs.declared.act.Question.{Question}

@@ -2,8 +2,6 @@
 use Rattle.std.specs.Prelude.{ℕ, zero, suc, ◌+◌, List, [], ◌∷◌, ◌++◌, Bool, true, false, Option, Some, None, if◌then◌else◌, nat_lt, length}
 use Rattle.std.specs.List.{list_any}
 use Rattle.lisp_base.specs.Forest.{NoTrees, Tree, count_of}
-use Rattle.lisp_program.specs.Forms.{forms_of}
-use Rattle.lisp_program.specs.Program.{Function}
 use Rattle.lisp_program.specs.declared.form.CoreKind.{CoreKind}
 use Rattle.lisp_program.specs.declared.form.CoreKind.TheVariants as k
 use Rattle.lisp_program.specs.declared.form.FormNode.{FormNode}
@@ -20,7 +18,7 @@ use Rattle.form_shapes.specs.Scopes.{Scope, has, leaf_symbol}
 use Rattle.lisp_forms.specs.declared.locks.Lock.{Lock}
 use Rattle.lisp_forms.specs.Expansion.{behind_variable, by_roles, is_none}
 use Rattle.lisp_forms.specs.inside.Flat.{flat, flat_one, node}
-use Rattle.lisp_forms.specs.Program.{core_kind, with_function}
+use Rattle.lisp_forms.specs.Program.{core_kind}
 use Rattle.lisp_forms.specs.Blocks.{is_function, is_return_to}
 use Rattle.lisp_forms.specs.Rows.{bind_kind, release_form}
 use Rattle.lisp_forms.specs.Trees.{Expansion, Single, first, nil_form, progn_form}
@@ -173,10 +171,6 @@ abbrev pub cores_in : (skipped left : ℕ) → List ExpandedNode → List FormNo
 cores_in skipped left [] = []
 cores_in skipped left (n ∷ ns) =
     if is_done skipped left then [] else core_here skipped n ++ cores_in (skipped_behind skipped n) (left_behind skipped left n) ns
-
--- the function that a node is, with these nodes after it
-abbrev pub function_here : ExpandedNode → List ExpandedNode → List Function
-function_here n ns = with_function n.kind n.place (forms_of (cores_in 0 n.parts ns)) []
 
 -- the place of a node that is a function
 abbrev pub place_here : ExpandedNode → List ℕ

@@ -1,5 +1,5 @@
 -- Forms as steps, one after the other.
-use Rattle.std.specs.Prelude.{◌≡◌, ℕ, zero, suc, ◌-◌, ◌≤◌, List, [], ◌∷◌, ◌++◌, Bool, true, false, length, take, drop, slice_set}
+use Rattle.std.specs.Prelude.{◌≡◌, ℕ, zero, suc, ◌-◌, ◌≤◌, List, [], ◌∷◌, ◌++◌, Bool, true, false, length, drop, slice_set}
 use Rattle.lisp_base.specs.Forest.{front, behind}
 use Rattle.plain_program.specs.declared.act.Act.TheVariants.{Push, Discard, Add}
 use Rattle.plain_program.specs.declared.act.Opening.TheVariants.{Bind as OpenBind}
@@ -8,7 +8,7 @@ use Rattle.plain_program.specs.declared.form.PlainKind.{PlainKind}
 use Rattle.plain_program.specs.declared.form.PlainKind.TheVariants.{Constant, Plus, Print, Progn, Special, Setq, Defvar, Let, Bind}
 use Rattle.plain_program.specs.declared.form.PlainNode.{PlainNode}
 use Rattle.plain_program.specs.Forms.{forms_of}
-use Rattle.plain_program.specs.Points.{Points, body_of, points_of}
+use Rattle.plain_program.specs.Points.{Points, body_of, operands, points_of}
 use Rattle.plain_program.specs.declared.steps.Step.{Step}
 use Rattle.plain_program.specs.declared.steps.Step.TheVariants.{Act, Ask, Test, Enter, Leave}
 use Rattle.plain_program.specs.inside.Steps.{steps_of}
@@ -24,15 +24,19 @@ strung true (f ∷ (g ∷ fs)) = steps_of f ++ (Act Discard ∷ strung true (g �
 abbrev pub body_steps : List Points → List Step
 body_steps fs = steps_of (body_of 0 fs)
 
+-- the steps of the first n forms, with NIL for one that is missing
+abbrev pub operand_steps : ℕ → List Points → List Step
+operand_steps n fs = steps_of (operands n 0 fs)
+
 -- the steps of the forms under a form of this kind
 abbrev pub under_steps : PlainKind → List Points → List Step
-under_steps (Constant v) = strung false
-under_steps Plus = strung false
-under_steps Print = strung false
+under_steps (Constant v) = operand_steps 0
+under_steps Plus = operand_steps 2
+under_steps Print = operand_steps 1
 under_steps Progn = body_steps
-under_steps (Special s) = strung false
-under_steps (Setq s) = strung false
-under_steps (Defvar s) = strung false
+under_steps (Special s) = operand_steps 0
+under_steps (Setq s) = operand_steps 1
+under_steps (Defvar s) = operand_steps 1
 under_steps Let = strung false
 under_steps (Bind s above) = body_steps
 
@@ -48,14 +52,14 @@ opening_steps (Defvar s) p = Test s 0 ∷ []
 opening_steps Let p = []
 opening_steps (Bind s above) p = Enter (OpenBind s above) p ∷ []
 
--- The steps of a form that begins at `start`, once those of the forms under it are written. Under a constant or a
--- variable there are none; a test passes over all steps after it.
+-- The steps of a form that begins at `start`, once those of the forms under it are written. A test passes over all steps
+-- after it.
 abbrev pub closing_steps : PlainKind → ℕ → List Step → List Step
-closing_steps (Constant v) start steps = take start steps ++ Act (Push v) ∷ []
+closing_steps (Constant v) start steps = steps ++ Act (Push v) ∷ []
 closing_steps Plus start steps = steps ++ Act Add ∷ []
 closing_steps Print start steps = steps ++ Ask AskPrint ∷ []
 closing_steps Progn start steps = steps
-closing_steps (Special s) start steps = take start steps ++ Ask (Read s) ∷ []
+closing_steps (Special s) start steps = steps ++ Ask (Read s) ∷ []
 closing_steps (Setq s) start steps = steps ++ Ask (Write s) ∷ []
 closing_steps (Defvar s) start steps = slice_set steps start (Test s (length steps - start)) ++ Ask (Define s) ∷ []
 closing_steps Let start steps = steps

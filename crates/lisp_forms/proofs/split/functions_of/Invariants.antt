@@ -1,8 +1,7 @@
-use Rattle.std.proofs.Common.{◌≡◌, ◌++◌, drop, map}
-use Rattle.lisp_program.specs.Program.{function_of}
+use Rattle.std.proofs.Common.{◌≡◌, ◌++◌, drop}
 use Rattle.lisp_forms.proofs.Cores.{functions_in}
 use Rattle.lisp_forms.proofs.split.functions_of.Given as goal
 
 -- the functions so far, with those of what is left, are all
 abbrev pub invariant-loop-index : goal.invariant-loop-index
-invariant-loop-index l = map function_of l.functions.items ++ functions_in (drop l.index l.nodes) ≡ functions_in l.nodes
+invariant-loop-index l = l.functions.items ++ functions_in (drop l.index l.nodes) ≡ functions_in l.nodes

@@ -1,5 +1,5 @@
-use Rattle.std.proofs.Common.{arith}
-use Rattle.plain_program.proofs.Flattened.{form_written, all_written, form_more, none_there, body_written}
+use Rattle.std.proofs.Common.{arith, inr}
+use Rattle.plain_program.proofs.Flattened.{form_written, all_written, form_more, none_there, body_written, operands_missing, operands_written}
 use Rattle.plain_program.proofs.flatten.+forms.Goals as goal
 
 pub push_form-returns-clause-writes : goal.push_form-returns-clause-writes
@@ -18,3 +18,10 @@ push_body-returns-then-from-nodes t c = none_there _ _ _ _ _ c.requires (omega a
 
 pub push_body-returns : goal.push_body-returns
 push_body-returns t c = body_written _ _ _ _ _ _ (omega arith) (omega (arith, c.requires)) c.in_ok-push_forms.ensures
+
+pub push_operands-returns-then-from-nodes : goal.push_operands-returns-then-from-nodes
+push_operands-returns-then-from-nodes t c = operands_missing _ _ _ _ _ _ c.requires (inr (omega arith)) c.in_ok-push_nils-2.ensures
+
+pub push_operands-returns : goal.push_operands-returns
+push_operands-returns t c =
+    operands_written _ _ _ _ _ _ _ _ _ _ _ (omega arith) (omega arith) (omega (arith, c.requires)) c.in_ok-next.ensures.writes c.in_ok-push_operands.ensures

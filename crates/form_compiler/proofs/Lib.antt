@@ -1,0 +1,9 @@
+pub mod Leasts
+pub mod Longs
+pub mod Namings
+pub mod Sized
+pub mod Walk
+pub mod Known
+pub mod Joined
+pub mod Gives
+pub mod Reaches

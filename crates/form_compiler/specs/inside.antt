@@ -1,0 +1,7 @@
+-- What only proofs use.
+pub mod Lengths
+pub mod Seats
+pub mod Unbuilt
+pub mod Extents
+pub mod Gives
+pub mod Reaches

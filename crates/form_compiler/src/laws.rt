@@ -1,0 +1,16 @@
+//! Laws of the points of well-made forms. There is nothing to run: the clauses are the laws.
+ghost use Rattle.lisp_program.specs.Forms.{Forms};
+ghost use Rattle.lisp_program.specs.Program.{Program};
+ghost use Rattle.lisp_program.specs.WellMade.{AreMade, Seat};
+ghost use Rattle.form_compiler.specs.inside.Gives.{AreGiving};
+ghost use Rattle.form_compiler.specs.inside.Reaches.{AllReach};
+
+/// Each well-made form gives one value, or what is wanted of it where it stands.
+pub fn made_forms_give()
+    ensures { (program : Program) (seat : Seat) (forms : Forms) → AreMade program seat forms → AreGiving seat forms }
+{}
+
+/// Each well-made form holds, at one of its lines, at least all that is held when it begins.
+pub fn made_forms_reach()
+    ensures { (program : Program) (seat : Seat) (forms : Forms) → AreMade program seat forms → AllReach forms }
+{}

@@ -1,0 +1,2 @@
+-- How values are held.
+pub mod Words
