@@ -5,3 +5,4 @@ pub mod CodeOf
 pub mod Validity
 pub mod Resting
 pub mod inside
+pub mod Rows

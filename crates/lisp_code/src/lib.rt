@@ -4,4 +4,5 @@
 pub mod code;
 pub mod instr;
 pub mod operands;
+pub mod rows;
 pub mod valid;
