@@ -210,6 +210,17 @@ pub fn opening_leaves(opening: &Opening) -> u32
     }
 }
 
+/// How many operands there are after a question.
+pub fn height_after(question: &Question, height: u32) -> u64
+    ensures { result ≡ replaced (question_takes question.now) (question_leaves question.now) height }
+{
+    replaced(
+        question_takes(question).into(),
+        question_leaves(question),
+        height,
+    )
+}
+
 /// How many operands there are in the frame that a point opens.
 pub fn height_inside(opening: &Opening, height: u32) -> u64
     ensures value { result ≡ replaced (opening_takes opening.now) (opening_leaves opening.now) height }

@@ -9,8 +9,8 @@ ghost use Rattle.lisp_code.specs.declared.instr.Instr.TheVariants.{Leave};
 use crate::code::{CodeParts, FunctionCode};
 use crate::instr::{Clause, Instr};
 use crate::operands::{
-    act_leaves, act_takes, height_inside, is_exit, left_by, opening_takes, question_leaves,
-    question_takes, replaced, takes_of,
+    act_leaves, act_takes, height_after, height_inside, is_exit, left_by, opening_takes, replaced,
+    takes_of,
 };
 use form_points::act::{Act, Opening, Question};
 use lisp_base::id::SymbolId;
@@ -96,14 +96,7 @@ fn question_goes_on(parts: &CodeParts, at: usize, height: u32, question: &Questi
     requires { at + 1 < 2 ^ 64 }
     ensures { IsTrue result ↔ EachLies parts.now (question_goings question.now at height) }
 {
-    let next = Landing::after(
-        at,
-        replaced(
-            question_takes(question).into(),
-            question_leaves(question),
-            height,
-        ),
-    );
+    let next = Landing::after(at, height_after(question, height));
     match question {
         Question::EndThread => true,
         Question::Print(_)
@@ -125,19 +118,13 @@ fn goes_on(parts: &CodeParts, at: usize, height: u32, instr: &Instr) -> bool
     let lower = here.saturating_sub(1);
     match instr {
         Instr::Do(act) => act_goes_on(parts, at, height, act),
-        Instr::Call(_, count) => lies(
-            parts,
-            Landing::after(at, replaced(u64::from(*count), 1, height)),
-        ),
-        Instr::Ask(question) => question_goes_on(parts, at, height, question),
-        Instr::Test(question, to) => {
-            let settled = replaced(
-                question_takes(question).into(),
-                question_leaves(question),
-                height,
-            );
-            lies(parts, Landing::after(at, here)) && lies(parts, Landing::of(*to, settled))
+        Instr::Call(_, count) => {
+            let called = replaced(u64::from(*count), 1, height);
+            lies(parts, Landing::after(at, called))
         }
+        Instr::Ask(question) => question_goes_on(parts, at, height, question),
+        Instr::Test(question, to) => lies(parts, Landing::after(at, here))
+            && lies(parts, Landing::of(*to, height_after(question, height))),
         Instr::Branch(to) => lies(parts, Landing::after(at, lower))
             && lies(parts, Landing::of(*to, lower)),
         Instr::LoopTest(to) => lies(parts, Landing::after(at, lower))
