@@ -5,4 +5,4 @@ pub mod code;
 pub mod instr;
 pub mod operands;
 pub mod rows;
-pub mod valid;
+mod valid;

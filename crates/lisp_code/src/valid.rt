@@ -73,7 +73,7 @@ fn clauses_lie(parts: &CodeParts, clauses: &[Clause], height: u32) -> bool
 }
 
 /// The clauses in a row, none where there is no such row.
-pub fn row_at(handlers: &[Vec<Clause>], row: u32) -> &[Clause]
+pub(crate) fn row_at(handlers: &[Vec<Clause>], row: u32) -> &[Clause]
     ensures { result.now ≡ row_of (rows_of handlers.now) row }
 {
     match handlers.get(row as usize) {
@@ -326,7 +326,7 @@ fn is_even(parts: &CodeParts) -> bool
 }
 
 /// Whether these are the parts of valid code.
-pub fn is_valid(parts: &CodeParts) -> bool
+pub(crate) fn is_valid(parts: &CodeParts) -> bool
     ensures { IsTrue result ↔ IsValid parts.now }
 {
     if !is_even(parts) || !lies(parts, Landing { at: 0, height: 0 }) {
