@@ -3,15 +3,18 @@ use Rattle.std.proofs.Common.{◌≡◌, ℕ, zero, suc, List, [], ◌∷◌, re
 use Rattle.lisp_base.specs.Forest.{NoTrees, Tree, behind, count_of}
 use Rattle.lisp_base.specs.declared.id.FunctionName.{FunctionName}
 use Rattle.lisp_program.specs.Forms.{Forms}
+use Rattle.lisp_program.specs.WellMade.{Clauses, Role, Gives, Binds, Handles, Stand, role_of, standing}
+use Rattle.lisp_program.specs.declared.form.CoreKind.{CoreKind}
+use Rattle.lisp_program.specs.declared.form.CoreKind.TheVariants as k
 use Rattle.form_points.specs.Operands.{operands}
 use Rattle.form_points.specs.Points.{Points, Done, Do, Ask, Test, Choose, Loop, Turn, Enter, Protect, Handle, When, all_of, body_of, joined}
 use Rattle.form_points.specs.Table.{points_of, table}
 use Rattle.form_points.specs.declared.act.Act.TheVariants as act
 use Rattle.lisp_code.specs.Held.{Holding, one_more, rise}
 use Rattle.lisp_code.specs.Lines.{Placed, Way, laid, no_way, past}
-use Rattle.form_compiler.specs.inside.Gives.{AllButOne, AreClauses, IsClause, Ones}
+use Rattle.form_compiler.specs.inside.Gives.{AllButOne, AreGiving, GivesAs, IsClause, Ones}
 use Rattle.form_compiler.specs.inside.Marks.{act_mark, placed_of}
-use Rattle.form_compiler.specs.inside.Tasks.{all, all_lines, beside_of, body, body_lines, clause_lines, nil_at, wanted, wanted_lines}
+use Rattle.form_compiler.specs.inside.Tasks.{all, all_lines, beside_of, body, body_lines, clause_lines, nil_at, way_for, wanted, wanted_lines}
 use Rattle.form_compiler.proofs.Joined.{laid-joined, past-joined}
 
 pub behind-beside : (u b : Forms) → behind (count_of u) (beside_of u b) ≡ b
@@ -57,6 +60,51 @@ clause-rise (When class g x (Protect p y z f)) h c = absurd c
 clause-rise (When class g x (Handle p y z f)) h c = absurd c
 clause-rise (When class g x (When class' g' y f)) h c = absurd c
 
+-- what stands among clauses is a clause
+clause-step : (role : Role) (f : Points) (b : Forms) → GivesAs role f → Stand (standing Clauses role) (λ s. Unit {0}) (λ s. AreGiving s b) → IsClause f × AreGiving Clauses b
+clause-step (Gives under) f b g s = absurd s
+clause-step (Binds above) f b g s = absurd s
+clause-step Handles f b g s = (g, s.1)
+
+-- so it goes along its way
+pub clause-way : (kind : CoreKind) (way : Way) (b : Forms) → Stand (standing Clauses (role_of kind)) (λ s. Unit {0}) (λ s. AreGiving s b) → way_for kind way ≡ way
+clause-way (k.Constant v) way b g = absurd g
+clause-way k.CurrentThread way b g = absurd g
+clause-way (k.Function n) way b g = absurd g
+clause-way (k.Local x) way b g = absurd g
+clause-way (k.Special v) way b g = absurd g
+clause-way (k.SetLocal x) way b g = absurd g
+clause-way (k.SetSpecial v) way b g = absurd g
+clause-way (k.Defvar v) way b g = absurd g
+clause-way (k.Defparameter v) way b g = absurd g
+clause-way (k.Defun f) way b g = absurd g
+clause-way (k.CompareAndSwap v) way b g = absurd g
+clause-way k.Progn way b g = absurd g
+clause-way k.If way b g = absurd g
+clause-way k.While way b g = absurd g
+clause-way k.Let way b g = absurd g
+clause-way (k.BindLocal x a) way b g = absurd g
+clause-way (k.BindSpecial v a) way b g = absurd g
+clause-way (k.Call f) way b g = absurd g
+clause-way (k.Apply f) way b g = absurd g
+clause-way (k.Print p) way b g = absurd g
+clause-way (k.Serve s) way b g = absurd g
+clause-way (k.Block n) way b g = absurd g
+clause-way (k.ReturnFrom n) way b g = absurd g
+clause-way k.Catch way b g = absurd g
+clause-way k.Throw way b g = absurd g
+clause-way k.UnwindProtect way b g = absurd g
+clause-way (k.WithoutInterrupts r) way b g = absurd g
+clause-way (k.AllowWithInterrupts r) way b g = absurd g
+clause-way k.WithInterrupts way b g = absurd g
+clause-way k.HandlerCase way b g = absurd g
+clause-way (k.Clause c) way b g = refl
+clause-way (k.ClauseWith c x) way b g = refl
+clause-way (k.Signal c) way b g = absurd g
+clause-way (k.WithDeadline a c) way b g = absurd g
+clause-way k.AbortThread way b g = absurd g
+clause-way k.ReturnFromThread way b g = absurd g
+
 -- the lines of a body, of forms in turn and of operands, where each gives one value
 module _ (names : List FunctionName) where
   pub body_lines-beside : (pl : ℕ) (u : Forms) (h : Holding) (at : ℕ) (b : Forms) (next : List Placed) → AllButOne u
@@ -91,10 +139,11 @@ module _ (names : List FunctionName) where
       (ap (laid names no_way h at f) (wanted_lines-beside n pl more (one_more h) (past at f) b next o.1))
 
   -- the lines of clauses, after each of which as much is held as before
-  pub clause_lines-beside : (u : Forms) (way : Way) (h : Holding) (at : ℕ) (b : Forms) (next : List Placed) → AreClauses u
+  pub clause_lines-beside : (u : Forms) (way : Way) (h : Holding) (at : ℕ) (b : Forms) (next : List Placed) → AreGiving Clauses u
       → clause_lines names (count_of u) way h at (beside_of u b) next ≡ laid names way h at (all_of (points_of u)) next
-  clause_lines-beside NoTrees way h at b next o = refl
-  clause_lines-beside (Tree k q u more) way h at b next o =
-      let f : Points = table k q (points_of u) in
-      rw (laid-joined names way h at f (all_of (points_of more)) next, clause-rise f h o.0)
-      (ap (laid names way h at f) (clause_lines-beside more way h (past at f) b next o.1))
+  clause_lines-beside NoTrees way h at b next g = refl
+  clause_lines-beside (Tree kind q u more) way h at b next g =
+      let f : Points = table kind q (points_of u) in
+      let both = clause-step (role_of kind) f more g.0 g.1 in
+      rw (laid-joined names way h at f (all_of (points_of more)) next, clause-rise f h both.0, clause-way kind way more g.1)
+      (ap (laid names way h at f) (clause_lines-beside more way h (past at f) b next both.1))

@@ -5,7 +5,7 @@ use Rattle.lisp_base.specs.declared.condition.Class.{Class}
 use Rattle.lisp_base.specs.declared.id.FunctionName.{FunctionName}
 use Rattle.lisp_base.specs.declared.value.Node.TheVariants.{Symbol}
 use Rattle.lisp_program.specs.Forms.{Forms}
-use Rattle.lisp_program.specs.WellMade.{role_of}
+use Rattle.lisp_program.specs.WellMade.{Clauses, role_of}
 use Rattle.lisp_program.specs.declared.form.CoreKind.{CoreKind}
 use Rattle.lisp_program.specs.declared.form.CoreKind.TheVariants as k
 use Rattle.form_points.specs.Operands.{first_of, operands, operands_of, others_of, printed_of}
@@ -21,7 +21,7 @@ use Rattle.form_compiler.specs.declared.task.Task.{Task}
 use Rattle.form_compiler.specs.declared.task.Task.TheVariants as task
 use Rattle.form_compiler.specs.inside.Gives.{AreClauses, AreGiving, GivesOne, Ones, seat_under, with_more}
 use Rattle.form_compiler.specs.inside.Marks.{act_mark, mark, placed_of, test_mark}
-use Rattle.form_compiler.specs.inside.Tasks.{IsLight, IsOnWay, IsSecond, Site, all, beside_of, body, deadline_tasks, framed, handling, less, nil_at, onward, run, schedule}
+use Rattle.form_compiler.specs.inside.Tasks.{IsLight, IsSecond, way_for, Site, all, beside_of, body, deadline_tasks, framed, handling, less, nil_at, onward, run, schedule}
 use Rattle.form_compiler.proofs.Choices.{after_one, entered_after, if_chosen, unwind_protected, while_looped}
 use Rattle.form_compiler.proofs.Gives.{bound-but_one, guarded, ones, ones-but_one, rise-all, rise-body, rise-bound, values-but_one}
 use Rattle.form_compiler.proofs.Joined.{laid-joined, past-joined}
@@ -35,7 +35,7 @@ length-points (Tree kind p u more) = ap suc (length-points more)
 
 module _ (names : List FunctionName) where
   -- a `handler-case`: the line that opens its frame, and then its tasks
-  handled : (pl at end : ℕ) (h : Holding) (t : Points) (u b : Forms) (ts : List Task) → AreClauses u → end ≡ past at (Handle pl t (all_of (points_of u)) Done)
+  handled : (pl at end : ℕ) (h : Holding) (t : Points) (u b : Forms) (ts : List Task) → AreGiving Clauses u → end ≡ past at (Handle pl t (all_of (points_of u)) Done)
       → placed (EntersHandler (clauses_at (suc (past (suc at) t)) (all_of (points_of u)))) pl h (total h)
         ∷ laid names no_way h (suc at) t (placed_of [] (mark (instr.LeaveHandler end) pl (one_more h) (total h))
         ∷ run names (suc (past (suc at) t)) (task.Clauses (count_of u) end pl h ∷ ts) (beside_of u b))
@@ -47,7 +47,7 @@ module _ (names : List FunctionName) where
       ∷ laid names no_way h (suc at) t (placed_of [] (mark (instr.LeaveHandler end) pl (one_more h) (total h)) ∷ l))
       (clause_lines-beside names u way h (suc (past (suc at) t)) b _ c))
 
-  pub handler_scheduled : (s : Site) (kind : CoreKind) (q : ℕ) (u more b : Forms) (ts : List Task) → AreClauses more
+  pub handler_scheduled : (s : Site) (kind : CoreKind) (q : ℕ) (u more b : Forms) (ts : List Task) → AreGiving Clauses more
       → s.forms ≡ suc (count_of more) → s.end ≡ past s.at (table k.HandlerCase s.place (points_of (Tree kind q u more)))
       → placed (EntersHandler (clauses_at (suc (past (suc s.at) (table kind q (points_of u)))) (all_of (points_of more)))) s.place s.holding (total s.holding)
         ∷ run names (suc s.at) (handling names s ts) (beside_of (Tree kind q u more) b)
@@ -88,59 +88,59 @@ module _ (names : List FunctionName) where
       bound_in names x 0 s u b (one_more s.holding) s.at (onward names s ∷ ts) (ones-but_one u o) (rise-body s.place u o (bound (one_more s.holding))) (sym c)
 
   -- the tasks of a form, and then others, write the lines of the form and what the others write
-  pub scheduled : (kind : CoreKind) (s : Site) (u b : Forms) (ts : List Task) → IsLight kind → AreGiving (seat_under (role_of kind)) u → IsOnWay kind s.way
+  pub scheduled : (kind : CoreKind) (way : Way) (s : Site) (u b : Forms) (ts : List Task) → IsLight kind → AreGiving (seat_under (role_of kind)) u → s.way ≡ way_for kind way
       → s.forms ≡ count_of u → s.end ≡ past s.at (table kind s.place (points_of u)) → IsSecond kind s (beside_of u b)
       → run names s.at (schedule names kind s ts) (beside_of u b)
       ≡ laid names s.way s.holding s.at (table kind s.place (points_of u)) (run names (past s.at (table kind s.place (points_of u))) ts b)
-  scheduled (k.Constant v) s u b ts l g w c e q = rw c (alone names (act.Push v) s.place u b s.holding s.at ts refl)
-  scheduled k.CurrentThread s u b ts l g w c e q = rw c (alone names act.PushThread s.place u b s.holding s.at ts refl)
-  scheduled (k.Function name) s u b ts l g w c e q = rw c (alone names (act.PushFunction name) s.place u b s.holding s.at ts refl)
-  scheduled (k.Local x) s u b ts l g w c e q = rw c (alone names (act.ReadLocal x) s.place u b s.holding s.at ts refl)
-  scheduled (k.Special v) s u b ts l g w c e q = rw (c, behind-beside u b) refl
-  scheduled (k.SetLocal x) s u b ts l g w c e q = rw (w, c) (acted names 1 s.place (act.WriteLocal x) u b s.holding s.at ts (ones u g) refl)
-  scheduled (k.SetSpecial v) s u b ts l g w c e q = rw (w, c) (asked_for names 1 s.place (question.Write v) u b s.holding s.at ts (ones u g))
-  scheduled (k.Defvar v) s u b ts l g w c e q =
+  scheduled (k.Constant v) way s u b ts l g w c e q = rw c (alone names (act.Push v) s.place u b s.holding s.at ts refl)
+  scheduled k.CurrentThread way s u b ts l g w c e q = rw c (alone names act.PushThread s.place u b s.holding s.at ts refl)
+  scheduled (k.Function name) way s u b ts l g w c e q = rw c (alone names (act.PushFunction name) s.place u b s.holding s.at ts refl)
+  scheduled (k.Local x) way s u b ts l g w c e q = rw c (alone names (act.ReadLocal x) s.place u b s.holding s.at ts refl)
+  scheduled (k.Special v) way s u b ts l g w c e q = rw (c, behind-beside u b) refl
+  scheduled (k.SetLocal x) way s u b ts l g w c e q = rw (w, c) (acted names 1 s.place (act.WriteLocal x) u b s.holding s.at ts (ones u g) refl)
+  scheduled (k.SetSpecial v) way s u b ts l g w c e q = rw (w, c) (asked_for names 1 s.place (question.Write v) u b s.holding s.at ts (ones u g))
+  scheduled (k.Defvar v) way s u b ts l g w c e q =
       rw (c, e) (ap (λ l. placed_of [] (test_mark (question.IsBound v) (past s.at (table (k.Defvar v) s.place (points_of u))) s.place s.holding) ∷ l)
       (asked_for names 1 s.place (question.Define v) u b s.holding (suc s.at) ts (ones u g)))
-  scheduled (k.Defparameter v) s u b ts l g w c e q = rw (w, c) (asked_for names 1 s.place (question.Define v) u b s.holding s.at ts (ones u g))
-  scheduled (k.Defun f) s u b ts l g w c e q = rw c (alone names (act.Push (Symbol f)) s.place u b s.holding s.at ts refl)
-  scheduled (k.CompareAndSwap v) s u b ts l g w c e q = rw (w, c) (asked_for names 2 s.place (question.CompareAndSwap v) u b s.holding s.at ts (ones u g))
-  scheduled k.Progn s u b ts l g w c e q =
+  scheduled (k.Defparameter v) way s u b ts l g w c e q = rw (w, c) (asked_for names 1 s.place (question.Define v) u b s.holding s.at ts (ones u g))
+  scheduled (k.Defun f) way s u b ts l g w c e q = rw c (alone names (act.Push (Symbol f)) s.place u b s.holding s.at ts refl)
+  scheduled (k.CompareAndSwap v) way s u b ts l g w c e q = rw (w, c) (asked_for names 2 s.place (question.CompareAndSwap v) u b s.holding s.at ts (ones u g))
+  scheduled k.Progn way s u b ts l g w c e q =
       rw (w, c, behind-beside u b, body-beside s.place u b) (body_lines-beside names s.place u s.holding s.at b _ (ones-but_one u (ones u g)))
-  scheduled k.If s u b ts l g w c e q = rw w (if_chosen names s u b ts (ones u g) c e q)
-  scheduled k.While s u b ts l g w c e q = (while_looped names s u b ts (ones u g) c e)
-  scheduled k.Let s u b ts l g w c e q =
+  scheduled k.If way s u b ts l g w c e q = rw w (if_chosen names s u b ts (ones u g) c e q)
+  scheduled k.While way s u b ts l g w c e q = (while_looped names s u b ts (ones u g) c e)
+  scheduled k.Let way s u b ts l g w c e q =
       rw (w, c, behind-beside u b, all-beside u b) (all_lines-beside names u s.holding s.at b _ (values-but_one 0 u g))
-  scheduled (k.BindLocal x above) s u b ts l g w c e q =
+  scheduled (k.BindLocal x above) way s u b ts l g w c e q =
       rw w (bound_in names x above s u b s.holding s.at ts (bound-but_one above u g) (rise-bound above s.place u g (bound s.holding)) (sym c))
-  scheduled (k.BindSpecial v above) s u b ts l g w c e q =
+  scheduled (k.BindSpecial v above) way s u b ts l g w c e q =
       rw c (entering names (opening.Bind v above) s u b s.holding s.at ts (bound-but_one above u g) e)
-  scheduled (k.Call f) s u b ts l g w c e q =
+  scheduled (k.Call f) way s u b ts l g w c e q =
       let n : ℕ = count_of u in
       let d : Points = all_of (points_of u) in
       let r : rise s.holding d ≡ with_more n s.holding = rw (← length-points u) (rise-all u s.holding (ones u g)) in
       rw (w, c, length-points u, all-beside u b, call_lined names (seat_of f names) n)
       (all_lines-beside names u s.holding s.at b _ (ones-but_one u (ones u g))
       ∙ tail names s.holding (with_more n s.holding) s.at d (Do (act.Call f n) s.place Done) _ b ts (behind-beside u b) r)
-  scheduled (k.Apply f) s u b ts l g w c e q = rw (w, c) (acted names (operands_of f) s.place (act.Apply f) u b s.holding s.at ts (ones u g) refl)
-  scheduled (k.Print printing) s u b ts l g w c e q = rw (w, c) (asked_for names (printed_of printing) s.place (question.Print printing) u b s.holding s.at ts (ones u g))
-  scheduled (k.Serve service) s u b ts l g w c e q = rw (w, c) (serving names service s.place s.end u b s.holding s.at ts (ones u g) e)
-  scheduled (k.Block n) s u b ts l g w c e q = rw c (entering names (opening.Block n) s u b s.holding s.at ts (ones-but_one u (ones u g)) e)
-  scheduled (k.ReturnFrom n) s u b ts l g w c e q = rw (w, c) (acted names 1 s.place (act.ReturnFrom n) u b s.holding s.at ts (ones u g) refl)
-  scheduled k.Catch s u b ts l g w c e q = rw (w, c) (entered_after names opening.Catch s s.holding s.at u b ts (ones u g) e)
-  scheduled k.Throw s u b ts l g w c e q = rw (w, c) (acted names 2 s.place act.Throw u b s.holding s.at ts (ones u g) refl)
-  scheduled k.UnwindProtect s u b ts l g w c e q = (unwind_protected names s u b ts (ones u g) c q)
-  scheduled (k.WithoutInterrupts r) s u b ts l g w c e q =
+  scheduled (k.Apply f) way s u b ts l g w c e q = rw (w, c) (acted names (operands_of f) s.place (act.Apply f) u b s.holding s.at ts (ones u g) refl)
+  scheduled (k.Print printing) way s u b ts l g w c e q = rw (w, c) (asked_for names (printed_of printing) s.place (question.Print printing) u b s.holding s.at ts (ones u g))
+  scheduled (k.Serve service) way s u b ts l g w c e q = rw (w, c) (serving names service s.place s.end u b s.holding s.at ts (ones u g) e)
+  scheduled (k.Block n) way s u b ts l g w c e q = rw c (entering names (opening.Block n) s u b s.holding s.at ts (ones-but_one u (ones u g)) e)
+  scheduled (k.ReturnFrom n) way s u b ts l g w c e q = rw (w, c) (acted names 1 s.place (act.ReturnFrom n) u b s.holding s.at ts (ones u g) refl)
+  scheduled k.Catch way s u b ts l g w c e q = rw (w, c) (entered_after names opening.Catch s s.holding s.at u b ts (ones u g) e)
+  scheduled k.Throw way s u b ts l g w c e q = rw (w, c) (acted names 2 s.place act.Throw u b s.holding s.at ts (ones u g) refl)
+  scheduled k.UnwindProtect way s u b ts l g w c e q = (unwind_protected names s u b ts (ones u g) c q)
+  scheduled (k.WithoutInterrupts r) way s u b ts l g w c e q =
       rw c (entering names (opening.WithoutInterrupts r) s u b s.holding s.at ts (ones-but_one u (ones u g)) e)
-  scheduled (k.AllowWithInterrupts r) s u b ts l g w c e q =
+  scheduled (k.AllowWithInterrupts r) way s u b ts l g w c e q =
       rw c (entering names (opening.AllowWithInterrupts r) s u b s.holding s.at ts (ones-but_one u (ones u g)) e)
-  scheduled k.WithInterrupts s u b ts l g w c e q = rw c (entering names opening.WithInterrupts s u b s.holding s.at ts (ones-but_one u (ones u g)) e)
-  scheduled k.HandlerCase s u b ts l g w c e q = absurd l
-  scheduled (k.Clause class) s u b ts l g w c e q = clause_plain class s u b ts (ones u g) c
-  scheduled (k.ClauseWith class x) s u b ts l g w c e q = clause_given class x s u b ts (ones u g) c
-  scheduled (k.Signal condition) s u b ts l g w c e q = rw c (alone names (act.Signal condition) s.place u b s.holding s.at ts refl)
-  scheduled (k.WithDeadline seconds replaces) s u b ts l g w c e q =
+  scheduled k.WithInterrupts way s u b ts l g w c e q = rw c (entering names opening.WithInterrupts s u b s.holding s.at ts (ones-but_one u (ones u g)) e)
+  scheduled k.HandlerCase way s u b ts l g w c e q = absurd l
+  scheduled (k.Clause class) way s u b ts l g w c e q = clause_plain class s u b ts (ones u g) c
+  scheduled (k.ClauseWith class x) way s u b ts l g w c e q = clause_given class x s u b ts (ones u g) c
+  scheduled (k.Signal condition) way s u b ts l g w c e q = rw c (alone names (act.Signal condition) s.place u b s.holding s.at ts refl)
+  scheduled (k.WithDeadline seconds replaces) way s u b ts l g w c e q =
       deadlined seconds replaces s u b ts (ones u g) c e
       ∙ ap (λ (v : Way). laid names v s.holding s.at (table (k.WithDeadline seconds replaces) s.place (points_of u)) (run names (past s.at (table (k.WithDeadline seconds replaces) s.place (points_of u))) ts b)) (sym w)
-  scheduled k.AbortThread s u b ts l g w c e q = rw c (alone names act.AbortThread s.place u b s.holding s.at ts refl)
-  scheduled k.ReturnFromThread s u b ts l g w c e q = rw (w, c) (acted names 1 s.place act.ReturnFromThread u b s.holding s.at ts (ones u g) refl)
+  scheduled k.AbortThread way s u b ts l g w c e q = rw c (alone names act.AbortThread s.place u b s.holding s.at ts refl)
+  scheduled k.ReturnFromThread way s u b ts l g w c e q = rw (w, c) (acted names 1 s.place act.ReturnFromThread u b s.holding s.at ts (ones u g) refl)

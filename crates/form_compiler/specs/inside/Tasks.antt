@@ -53,6 +53,16 @@ abbrev pub first : Forms → Points
 first NoTrees = Done
 first (Tree kind p under beside) = table kind p (points_of under)
 
+-- a clause goes along this way, and there is none for another form
+abbrev pub way_for : CoreKind → Way → Way
+way_for (k.Clause class) way = way
+way_for (k.ClauseWith class x) way = way
+way_for kind way = no_way
+
+abbrev pub first_way : Forms → Way → Way
+first_way NoTrees way = no_way
+first_way (Tree kind p under beside) way = way_for kind way
+
 -- the constant NIL
 abbrev pub nil_at : ℕ → Points
 nil_at p = Do (act.Push nil) p Done
@@ -105,13 +115,13 @@ module _ (names : List FunctionName) where
 
   abbrev pub clause_lines : ℕ → Way → Holding → (at : ℕ) → Forms → List Placed → List Placed
   clause_lines zero way h at f next = next
-  clause_lines (suc n) way h at f next = laid names way h at (first f) (clause_lines n way h (past at (first f)) (others f) next)
+  clause_lines (suc n) way h at f next = laid names (first_way f way) h at (first f) (clause_lines n way h (past at (first f)) (others f) next)
 
   -- what the tasks write, from a position on, where these forms are left
   abbrev pub run : ℕ → List Task → Forms → List Placed
   run at [] f = []
-  run at (Form h ∷ ts) f = laid_so h at (first f) (run (past at (first f)) ts (others f))
-  run at (ClauseTask h to pl ∷ ts) f = laid names (record { to = to; place = pl }) h at (first f) (run (past at (first f)) ts (others f))
+  run at (Form h ∷ ts) f = laid names (first_way f no_way) h at (first f) (run (past at (first f)) ts (others f))
+  run at (ClauseTask h to pl ∷ ts) f = laid names (first_way f (record { to = to; place = pl })) h at (first f) (run (past at (first f)) ts (others f))
   run at (Part there pl h ∷ ts) f = laid_so h at (part there pl f) (run (past at (part there pl f)) ts (part_left there f))
   run at (Body n pl h ∷ ts) f = body_lines n pl h at f (run (past at (body n pl f)) ts (behind n f))
   run at (AllTask n h ∷ ts) f = all_lines n h at f (run (past at (all n f)) ts (behind n f))
@@ -334,8 +344,12 @@ abbrev pub IsLight : CoreKind → Type 0
 IsLight k.HandlerCase = ⊥
 IsLight kind = Unit {0}
 
--- a clause goes along its way, and there is no way for another form
-abbrev pub IsOnWay : CoreKind → Way → Type 0
-IsOnWay (k.Clause class) way = Unit {0}
-IsOnWay (k.ClauseWith class x) way = Unit {0}
-IsOnWay kind way = way ≡ no_way
+-- the clauses that the first n of these forms are, from a position on
+abbrev pub starts : ℕ → ℕ → Forms → List Clause
+starts zero at f = []
+starts (suc n) at NoTrees = []
+starts (suc n) at (Tree (k.Clause class) p u b) =
+    record { class = class; is_given = false; start = at } ∷ starts n (past at (table (k.Clause class) p (points_of u))) b
+starts (suc n) at (Tree (k.ClauseWith class x) p u b) =
+    record { class = class; is_given = true; start = at } ∷ starts n (past at (table (k.ClauseWith class x) p (points_of u))) b
+starts (suc n) at (Tree kind p u b) = starts n (past at (table kind p (points_of u))) b
