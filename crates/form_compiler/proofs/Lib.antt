@@ -11,3 +11,5 @@ pub mod Taken
 pub mod Scheduled
 pub mod Choices
 pub mod Tasked
+pub mod Unfolded
+pub mod Steps
