@@ -13,3 +13,4 @@ pub mod Choices
 pub mod Tasked
 pub mod Unfolded
 pub mod Steps
+pub mod Handlers
