@@ -1,14 +1,14 @@
 //! Compiles programs: their points, laid out as code.
 #![tactic(auto)]
 
+pub mod extent;
+pub mod laws;
 mod lengths;
 pub mod hold;
 pub mod mark;
 mod names;
-mod unbuilt;
-pub mod extent;
 mod operands;
 pub mod row;
 mod sizes;
 pub mod task;
-pub mod laws;
+mod unbuilt;
