@@ -7,3 +7,4 @@ pub mod Gives
 pub mod Reaches
 pub mod Marks
 pub mod Tasks
+pub mod Lists

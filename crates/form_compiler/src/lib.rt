@@ -11,4 +11,5 @@ mod operands;
 pub mod row;
 mod sizes;
 pub mod task;
+pub mod tasks;
 pub mod laws;
