@@ -3,6 +3,7 @@
 
 mod lengths;
 pub mod hold;
+mod light;
 pub mod mark;
 mod names;
 mod unbuilt;
@@ -12,4 +13,10 @@ pub mod row;
 mod sizes;
 pub mod task;
 pub mod tasks;
+mod unfold;
+mod parts;
+mod control;
+mod schedule;
+mod service;
+pub mod site;
 pub mod laws;
