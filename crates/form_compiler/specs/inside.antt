@@ -8,3 +8,4 @@ pub mod Reaches
 pub mod Marks
 pub mod Tasks
 pub mod Steps
+pub mod Lists
