@@ -5,3 +5,4 @@ pub mod Unbuilt
 pub mod Extents
 pub mod Gives
 pub mod Reaches
+pub mod Fits

@@ -2,6 +2,7 @@
 ghost use Rattle.lisp_program.specs.Forms.{Forms};
 ghost use Rattle.lisp_program.specs.Program.{Program};
 ghost use Rattle.lisp_program.specs.WellMade.{AreMade, Seat};
+ghost use Rattle.form_compiler.specs.inside.Fits.{AreFit};
 ghost use Rattle.form_compiler.specs.inside.Gives.{AreGiving};
 ghost use Rattle.form_compiler.specs.inside.Reaches.{AllReach};
 
@@ -13,4 +14,9 @@ pub fn made_forms_give()
 /// Each well-made form holds, at one of its lines, at least all that is held when it begins.
 pub fn made_forms_reach()
     ensures { (program : Program) (seat : Seat) (forms : Forms) → AreMade program seat forms → AllReach forms }
+{}
+
+/// The points of each well-made form find their operands, and give what is wanted of them.
+pub fn made_forms_fit()
+    ensures { (program : Program) (seat : Seat) (forms : Forms) → AreMade program seat forms → AreFit program.specials forms }
 {}
