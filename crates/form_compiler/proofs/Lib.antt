@@ -8,3 +8,6 @@ pub mod Joined
 pub mod Gives
 pub mod Reaches
 pub mod Fitting
+pub mod Fine
+pub mod Sounding
+pub mod Whole

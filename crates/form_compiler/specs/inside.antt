@@ -6,3 +6,4 @@ pub mod Extents
 pub mod Gives
 pub mod Reaches
 pub mod Fits
+pub mod Sound
