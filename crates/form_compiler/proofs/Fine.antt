@@ -1,8 +1,7 @@
 -- Each line that finds its operands, holds not too much and goes on where lines are is valid code.
-use Rattle.std.proofs.Common.{◌≡◌, ◌≤◌, ◌<◌, ◌-◌, ◌+◌, ℕ, zero, suc, pred, max, List, [], ◌∷◌, Bool, true, false, Option, Some, None, All, map, length, get_or, drop, arith, refl, sym, ap, subst, ◌∙◌, true≢false}
+use Rattle.std.proofs.Common.{◌≡◌, ◌≤◌, ◌<◌, ◌-◌, ◌+◌, ℕ, zero, suc, pred, max, List, [], ◌∷◌, Bool, true, false, All, length, get_or, arith, refl, ap, subst, ◌∙◌, true≢false}
 use Rattle.std.proofs.lemmas.List.Elements.{All-cons, All-nil}
 use Rattle.lisp_base.specs.declared.condition.Condition.{Condition}
-use Rattle.lisp_program.specs.WellMade.{IsOneOf}
 use Rattle.form_points.specs.Operands.{act_leaves, act_takes, operands_of, opening_leaves, opening_takes, printed_of, question_leaves, question_takes, served_of, written}
 use Rattle.form_points.specs.declared.act.Act.{Act}
 use Rattle.form_points.specs.declared.act.Act.TheVariants as act
@@ -14,7 +13,6 @@ use Rattle.form_points.specs.declared.act.Step.TheVariants as step
 use Rattle.lisp_code.specs.Held.{Holding, after_act, after_question, fewer, held_at, held_by, held_in, inside, one_more, outside, total, without}
 use Rattle.lisp_code.specs.Parts.{Parts}
 use Rattle.lisp_code.specs.Validity.{Going, IsActNumbered, IsFine, IsKnown, IsNoJump, IsOpeningNamed, Lies, act_goings, is_exit, left_by_act, left_by_question, most_operands, on, question_goings, replaced}
-use Rattle.lisp_code.specs.declared.instr.Instr.{Instr}
 use Rattle.lisp_code.specs.declared.instr.Instr.TheVariants as i
 use Rattle.form_compiler.specs.inside.Fits.{IsOpened}
 

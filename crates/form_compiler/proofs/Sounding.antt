@@ -1,17 +1,14 @@
 -- Points that fit are laid out as valid code.
 use Rattle.std.proofs.Common.{◌≡◌, ◌≤◌, ◌<◌, ◌+◌, ℕ, zero, suc, max, List, [], ◌∷◌, Bool, true, false, Option, Some, None, All, map, length, get_or, drop, arith, refl, sym, ap, subst, ◌∙◌}
 use Rattle.std.proofs.lemmas.List.Elements.{All-cons, All-nil}
-use Rattle.lisp_base.specs.declared.condition.Class.{Class}
 use Rattle.lisp_base.specs.declared.id.FunctionName.{FunctionName}
 use Rattle.form_points.specs.Operands.{act_takes, one_of}
 use Rattle.form_points.specs.Points.{Points, Done, Do, Ask, Test, Choose, Loop, Turn, Enter, Protect, Handle, When}
 use Rattle.form_points.specs.declared.act.Act.{Act}
 use Rattle.form_points.specs.declared.act.Act.TheVariants as act
-use Rattle.form_points.specs.declared.act.Opening.{Opening}
-use Rattle.form_points.specs.declared.act.Question.{Question}
 use Rattle.lisp_code.specs.CodeOf.{most_held}
-use Rattle.lisp_code.specs.Held.{Holding, after_act, after_question, fewer, held_at, held_by, held_in, inside, one_more, outside, rise, total, without}
-use Rattle.lisp_code.specs.Lines.{Does, Asks, Tests, Branches, LoopTests, JumpsTo, Enters, EntersProtect, EntersHandler, Leaves, LeavesProtect, LeavesCleanup, LeavesHandler, Placed, Way, act_line, call_line, clauses_at, given, laid, no_way, past, placed, seat_of}
+use Rattle.lisp_code.specs.Held.{Holding, after_act, after_question, fewer, held_by, inside, one_more, outside, rise, total, without}
+use Rattle.lisp_code.specs.Lines.{Does, LoopTests, JumpsTo, Leaves, LeavesProtect, LeavesCleanup, LeavesHandler, Placed, Way, act_line, call_line, clauses_at, given, laid, no_way, past, placed, seat_of}
 use Rattle.lisp_code.specs.Parts.{Parts, line_of}
 use Rattle.lisp_code.specs.Validity.{IsNoJump, Lies, clause_going, most_operands, on}
 use Rattle.lisp_code.specs.declared.instr.Instr.{Instr}

@@ -9,14 +9,12 @@ use Rattle.lisp_program.specs.declared.form.CoreKind.TheVariants as k
 use Rattle.lisp_program.specs.WellMade.{AreMade, BodiesAreMade, Each, IsWellMade}
 use Rattle.form_points.specs.Points.{Points, Done, Do, Ask, Test, Choose, Loop, Turn, Enter, Protect, Handle, When, body_of}
 use Rattle.form_points.specs.Table.{main_points, points_of}
-use Rattle.form_points.specs.declared.act.Act.TheVariants as act
 use Rattle.form_points.specs.declared.act.Question.TheVariants as question
 use Rattle.lisp_code.specs.CodeOf.{IsCodeOf, Stretch, aborting, begun, functions_from, height_of, lines_from, most_held, names_of, program_lines, stretch_of, stretches_of}
 use Rattle.lisp_code.specs.Held.{Holding, after_act, after_question, held_at, inside, one_more, outside, rise, total, without}
 use Rattle.lisp_code.specs.Lines.{Asks, Leaves, Placed, Way, given, is_named, laid, no_way, one_later, past, placed, seat_of}
 use Rattle.lisp_code.specs.Parts.{Parts, line_of}
-use Rattle.lisp_code.specs.Validity.{AreFine, IsFine, IsFunction, IsValid, Lies, clause_going, most_operands, on}
-use Rattle.lisp_code.specs.declared.code.FunctionCode.{FunctionCode}
+use Rattle.lisp_code.specs.Validity.{AreFine, IsFine, IsFunction, IsValid, Lies, most_operands, on}
 use Rattle.lisp_code.specs.declared.instr.Instr.{Instr}
 use Rattle.lisp_code.specs.declared.instr.Instr.TheVariants as i
 use Rattle.form_compiler.specs.inside.Fits.{AreFit, Fits, Lifts}
@@ -178,3 +176,83 @@ module _ (p : Parts) (names : List FunctionName) (ls : List Placed) (c : IsLaidO
         height = at-most (height_of names s) (most_held (laid names no_way (begun s.params) at s.points (last ∷ rest))) most_operands less most
       })
       (functions-are (suc end) ss e2 g.1)
+
+-- a program and its code
+seats-there : (pr : Program) (p : Parts) → IsCodeOf pr p → (f n : ℕ) → seat_of f (names_of (stretches_of pr)) ≡ Some n → n < length p.functions
+seats-there pr p code f n e =
+    let names : List FunctionName = names_of (stretches_of pr) in
+    let as_many : length names ≡ length p.functions =
+    length-mapped (λ (s : Stretch). s.name) (stretches_of pr)
+    ∙ sym (ap length code.functions ∙ functions-length names (past 0 (main_points pr.forms)) (stretches_of pr)) in
+    subst (λ m. n < m) as_many (seat-below f names n e)
+
+laid-out : (pr : Program) (p : Parts) → IsCodeOf pr p → most_held (program_lines pr) ≤ most_operands → IsLaidOut p (names_of (stretches_of pr)) (program_lines pr)
+laid-out pr p code u = record { lines = code.lines; heights = code.heights; held = u; seats = seats-there pr p code }
+
+-- the lines after those of main's forms: the end of the thread, and then the functions
+abbrev ends_of : Program → Placed
+ends_of pr = placed (Asks question.EndThread) 0 (rise (begun 0) (body_of 0 (points_of pr.forms))) (held_at question.EndThread (rise (begun 0) (body_of 0 (points_of pr.forms))))
+
+abbrev functions_of : Program → List Placed
+functions_of pr = lines_from (names_of (stretches_of pr)) (past 0 (main_points pr.forms)) (stretches_of pr)
+
+main-laid : (pr : Program) → program_lines pr
+    ≡ laid (names_of (stretches_of pr)) no_way (begun 0) 0 (body_of 0 (points_of pr.forms)) (ends_of pr ∷ functions_of pr)
+main-laid pr =
+    laid-joined (names_of (stretches_of pr)) no_way (begun 0) 0 (body_of 0 (points_of pr.forms)) (Ask question.EndThread 0 Done) (functions_of pr)
+
+functions-begin : (pr : Program) → drop (past 0 (main_points pr.forms)) (program_lines pr) ≡ functions_of pr
+functions-begin pr = drop-laid (names_of (stretches_of pr)) no_way (program_lines pr) (begun 0) 0 (main_points pr.forms) (functions_of pr) refl
+
+one-there : (n : ℕ) → n ≡ 1 → 1 ≤ n
+one-there n e = omega (arith, e)
+
+program-sound : (pr : Program) (p : Parts) → IsLaidOut p (names_of (stretches_of pr)) (program_lines pr)
+    → Fits p.specials (begun 0) (body_of 0 (points_of pr.forms)) → Lifts (begun 0) (body_of 0 (points_of pr.forms)) → AreGood p.specials (stretches_of pr)
+    → AreSound p 0 (program_lines pr)
+program-sound pr p c fit lift good =
+    let names : List FunctionName = names_of (stretches_of pr) in
+    let body : Points = body_of 0 (points_of pr.forms) in
+    let end : ℕ = past 0 body in
+    let here : drop end (program_lines pr) ≡ ends_of pr ∷ functions_of pr =
+    drop-laid names no_way (program_lines pr) (begun 0) 0 body (ends_of pr ∷ functions_of pr) (main-laid pr) in
+    let others : AreSound p (past 0 (main_points pr.forms)) (functions_of pr) =
+    stretches-sound p names (program_lines pr) c (past 0 (main_points pr.forms)) (stretches_of pr) (functions-begin pr) good in
+    let next : AreSound p (suc end) (functions_of pr) =
+    subst (λ n. AreSound p n (functions_of pr)) (past-joined 0 body (Ask question.EndThread 0 Done)) others in
+    let last : AreSound p end (ends_of pr ∷ functions_of pr) = (
+      fine-end p end (rise (begun 0) body) (one-there (rise (begun 0) body).height lift) (held p names (program_lines pr) c end (ends_of pr) (functions_of pr) here),
+      next,
+    ) in
+    subst (λ xs. AreSound p 0 xs) (sym (main-laid pr))
+    (laid-sound p names (program_lines pr) c no_way (begun 0) 0 body (ends_of pr ∷ functions_of pr) fit (main-laid pr) refl last)
+
+program-begins : (pr : Program) (p : Parts) → IsLaidOut p (names_of (stretches_of pr)) (program_lines pr)
+    → Fits p.specials (begun 0) (body_of 0 (points_of pr.forms)) → Lies p (on 0 0)
+program-begins pr p c fit =
+    let names : List FunctionName = names_of (stretches_of pr) in
+    let body : Points = body_of 0 (points_of pr.forms) in
+    lies p names (program_lines pr) c 0 0 (laid names no_way (begun 0) 0 body (ends_of pr ∷ functions_of pr)) (main-laid pr)
+    (begins names no_way p.specials (begun 0) 0 body (ends_of pr ∷ functions_of pr) fit refl)
+
+pub code-valid : (pr : Program) (p : Parts) → IsCodeOf pr p → IsWellMade pr → RowsAreThere p → most_held (program_lines pr) ≤ most_operands → IsValid p
+code-valid pr p code made rows u =
+    let names : List FunctionName = names_of (stretches_of pr) in
+    let c : IsLaidOut p names (program_lines pr) = laid-out pr p code u in
+    let main : Fits pr.specials (begun 0) (body_of 0 (points_of pr.forms)) × (Lifts (begun 0) (body_of 0 (points_of pr.forms)) × Reaches (body_of 0 (points_of pr.forms))) =
+    body-good pr 0 pr.forms (begun 0) made.forms in
+    let fit : Fits p.specials (begun 0) (body_of 0 (points_of pr.forms)) =
+    subst (λ ss. Fits ss (begun 0) (body_of 0 (points_of pr.forms))) (sym code.specials) main.0 in
+    let good : AreGood p.specials (stretches_of pr) =
+    subst (λ ss. AreGood ss (stretches_of pr)) (sym code.specials) (stretches-good pr pr.functions made.functions) in
+    let many : length p.instrs ≡ length (program_lines pr) = same-length p names (program_lines pr) c in
+    let entry : ℕ = past 0 (main_points pr.forms) in
+    record {
+      begins = program-begins pr p c fit;
+      places = ap length code.places ∙ (length-mapped (λ (l : Placed). l.place) (program_lines pr) ∙ sym many);
+      heights = ap length code.heights ∙ (length-mapped (λ (l : Placed). l.height) (program_lines pr) ∙ sym many);
+      instructions = subst (λ hs. AreFine p 0 hs p.instrs) (sym code.heights)
+          (are-fine p 0 p.instrs (program_lines pr) code.lines (program-sound pr p c fit main.1.0 good) rows);
+      functions = subst (λ fs. All (IsFunction p) fs) (sym code.functions)
+          (functions-are p names (program_lines pr) c entry (stretches_of pr) (functions-begin pr) good)
+    }

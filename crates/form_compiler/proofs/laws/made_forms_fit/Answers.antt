@@ -1,4 +1,3 @@
-use Rattle.form_compiler.proofs.Whole.{functions-are}
 use Rattle.form_compiler.proofs.Fitting.{made-fit}
 use Rattle.form_compiler.proofs.laws.made_forms_fit.Goals as goal
 
