@@ -1,11 +1,11 @@
 //! Compiles programs: their points, laid out as code.
 #![tactic(auto)]
 
+pub mod extent;
+pub mod laws;
 mod lengths;
 mod names;
-mod unbuilt;
-pub mod extent;
 mod operands;
 pub mod row;
 mod sizes;
-pub mod laws;
+mod unbuilt;

@@ -4,6 +4,8 @@
 #[cfg(test)]
 mod bindings;
 #[cfg(test)]
+mod code;
+#[cfg(test)]
 mod journal_lines;
 #[cfg(test)]
 mod limits;

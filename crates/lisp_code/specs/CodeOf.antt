@@ -72,7 +72,7 @@ abbrev pub functions_from : List FunctionName → (position : ℕ) → List Stre
 functions_from names at [] = []
 functions_from names at (s ∷ ss) =
     record { name = s.name; place = s.place; entry = at; params = s.params; height = height_of names s }
-      ∷ functions_from names (suc (past at s.points)) ss
+    ∷ functions_from names (suc (past at s.points)) ss
 
 -- These are the parts of the code of a program: its lines are those of the program, its functions begin where their lines do, and its
 -- special variables are those of the program.

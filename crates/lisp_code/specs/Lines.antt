@@ -122,39 +122,39 @@ laid names way h at (Ask q p after) next =
 laid names way h at (Test q p more after) next =
     let end : ℕ = past (suc at) more in
     placed (Tests q end) p h (held_at q h)
-      ∷ laid names no_way h (suc at) more (laid names way (after_question q h) end after next)
+    ∷ laid names no_way h (suc at) more (laid names way (after_question q h) end after next)
 laid names way h at (Choose p x y after) next =
     let low : Holding = without 1 h in
     let jump : ℕ = past (suc at) x in
     let end : ℕ = past (suc jump) y in
     placed (Branches (suc jump)) p h (total low)
-      ∷ laid names no_way low (suc at) x (placed (JumpsTo end) p (one_more low) (total low)
-      ∷ laid names no_way low (suc jump) y (laid names way (one_more low) end after next))
+    ∷ laid names no_way low (suc at) x (placed (JumpsTo end) p (one_more low) (total low)
+    ∷ laid names no_way low (suc jump) y (laid names way (one_more low) end after next))
 laid names way h at (Loop p test body after) next =
     let judge : ℕ = past at test in
     let again : ℕ = suc (past (suc judge) body) in
     laid names no_way h at test (placed (LoopTests (suc again)) p (one_more h) (total (one_more h))
-      ∷ laid names no_way h (suc judge) body (placed (Does Discard) p (one_more h) (total h)
-      ∷ (placed (JumpsTo at) p h (total h) ∷ laid names way (one_more h) (suc again) after next)))
+    ∷ laid names no_way h (suc judge) body (placed (Does Discard) p (one_more h) (total h)
+    ∷ (placed (JumpsTo at) p h (total h) ∷ laid names way (one_more h) (suc again) after next)))
 laid names way h at (Turn p test body after) next = laid names way h at after next
 laid names way h at (Enter o p body after) next =
     let leave : ℕ = past (suc at) body in
     placed (Enters o (suc leave)) p h (held_in o h)
-      ∷ laid names no_way (inside o h) (suc at) body (placed Leaves p (one_more (outside o h)) (total (outside o h))
-      ∷ laid names way (one_more (outside o h)) (suc leave) after next)
+    ∷ laid names no_way (inside o h) (suc at) body (placed Leaves p (one_more (outside o h)) (total (outside o h))
+    ∷ laid names way (one_more (outside o h)) (suc leave) after next)
 laid names way h at (Protect p body cleanup after) next =
     let turn : ℕ = past (suc at) body in
     let leave : ℕ = past (suc turn) cleanup in
     placed (EntersProtect (suc turn)) p h (total h)
-      ∷ laid names no_way h (suc at) body (placed LeavesProtect p (one_more h) (total h)
-      ∷ laid names no_way h (suc turn) cleanup (placed LeavesCleanup p (one_more h) (total h)
-      ∷ laid names way (one_more h) (suc leave) after next))
+    ∷ laid names no_way h (suc at) body (placed LeavesProtect p (one_more h) (total h)
+    ∷ laid names no_way h (suc turn) cleanup (placed LeavesCleanup p (one_more h) (total h)
+    ∷ laid names way (one_more h) (suc leave) after next))
 laid names way h at (Handle p body clauses after) next =
     let leave : ℕ = past (suc at) body in
     let end : ℕ = past (suc leave) clauses in
     placed (EntersHandler (clauses_at (suc leave) clauses)) p h (total h)
-      ∷ laid names no_way h (suc at) body (placed (LeavesHandler end) p (one_more h) (total h)
-      ∷ laid names (record { to = end; place = p }) h (suc leave) clauses (laid names way (one_more h) end after next))
+    ∷ laid names no_way h (suc at) body (placed (LeavesHandler end) p (one_more h) (total h)
+    ∷ laid names (record { to = end; place = p }) h (suc leave) clauses (laid names way (one_more h) end after next))
 laid names way h at (When class is_given chosen others) next =
     laid names no_way (given is_given h) at chosen (placed (JumpsTo way.to) way.place (one_more h) (total h)
-      ∷ laid names way h (suc (past at chosen)) others next)
+    ∷ laid names way h (suc (past at chosen)) others next)

@@ -1,5 +1,6 @@
 -- The parts of code as lists, and what an instruction is as a line.
-use Rattle.std.specs.Prelude.{ℕ, List, [], get_or}
+use Rattle.std.specs.Prelude.{ℕ, List, [], get_or, map}
+use Rattle.std.specs.Global.{Vec}
 use Rattle.lisp_code.specs.declared.code.FunctionCode.{FunctionCode}
 use Rattle.lisp_code.specs.declared.instr.Clause.{Clause}
 use Rattle.lisp_code.specs.declared.instr.Instr.{Instr}
@@ -14,6 +15,10 @@ pub record Parts : Type 0 where
   pub functions : List FunctionCode
   pub specials : List ℕ
   pub handlers : List (List Clause)
+
+-- the clauses in each of these vectors
+abbrev pub rows_of : List (Vec Clause) → List (List Clause)
+rows_of rows = map (λ (row : Vec Clause). row.items) rows
 
 -- the clauses in a row, none where there is no such row
 abbrev pub row_of : List (List Clause) → ℕ → List Clause

@@ -3,3 +3,6 @@
 
 pub mod code;
 pub mod instr;
+pub mod operands;
+pub mod rows;
+mod valid;

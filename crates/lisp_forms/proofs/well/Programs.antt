@@ -6,7 +6,7 @@ use Rattle.lisp_base.specs.declared.refusal.Refusal.{Refusal}
 use Rattle.lisp_base.specs.declared.refusal.Refusal.TheVariants.{DefinedTwice, TooMany}
 use Rattle.lisp_base.specs.declared.refusal.Refused.{Refused}
 use Rattle.lisp_base.specs.declared.value.Node.TheVariants.{Symbol as ASymbol}
-use Rattle.lisp_program.specs.Points.{nil}
+use Rattle.lisp_base.specs.Value.{nil}
 use Rattle.lisp_program.specs.Program.{Program}
 use Rattle.lisp_program.specs.WellMade.{AreMade, BodiesAreMade, Each, IsNameOf, IsOneOf}
 use Rattle.lisp_program.specs.declared.form.CoreKind.TheVariants as k

@@ -43,7 +43,7 @@ AreStanding w seat NoTrees = MayBeEmpty seat
 AreStanding w seat (Tree kind p under beside) =
     IsNamedIn w kind × Stand (standing seat (role_in kind)) (λ s. AreStanding w s under) (λ s. AreStanding w s beside)
 
--- what has this role gives a value, and what is under it stands in its seat
+-- what has this role gives a value, and this holds of the seat under it
 abbrev pub IsGiver : Role → (Seat → Type 0) → Type 0
 IsGiver (Gives under) stand = stand under
 IsGiver (Binds above) stand = ⊥
@@ -68,7 +68,7 @@ abbrev pub IsTargetIn : Program → Option Target → Type 0
 IsTargetIn w None = Unit {0}
 IsTargetIn w (Some target) = IsTarget w target
 
--- What a list of this shape stands for stands as it should, as far as its kind says. The clauses of a `handler-case` have their shape.
+-- the kind in a shape gives a value, and what it names is the program's; all clauses of a `handler-case` have their shape
 abbrev pub IsShapeStanding : Program → Bool → Shape → Type 0
 IsShapeStanding w are_shaped (shape.Leaf kind) = IsStanding w (leaf kind 0)
 IsShapeStanding w are_shaped (shape.Over kind roles) = IsNamed w kind × (role_of kind ≡ Gives Each)
