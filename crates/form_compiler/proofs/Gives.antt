@@ -58,16 +58,16 @@ pub tested : (t : Bool) (s : Standing) (under beside : Seat → Type 0) → Stan
 tested true s under beside h = (refl, h)
 tested false s under beside h = absurd h
 
-none-stands : (role : Role) (under beside : Seat → Type 0) → Stand (standing Empty role) under beside → ⊥
+pub none-stands : (role : Role) (under beside : Seat → Type 0) → Stand (standing Empty role) under beside → ⊥
 none-stands (Gives u) under beside h = h
 none-stands (Binds above) under beside h = h
 none-stands Handles under beside h = h
 
-empty : (u : Forms) → AreGiving Empty u → u ≡ NoTrees
+pub empty : (u : Forms) → AreGiving Empty u → u ≡ NoTrees
 empty NoTrees g = refl
 empty (Tree kind p u b) g = absurd (none-stands (role_of kind) (λ s. Unit {0}) (λ s. AreGiving s b) g.1)
 
-suc-zero : (n : ℕ) → suc n ≡ 0 → ⊥
+pub suc-zero : (n : ℕ) → suc n ≡ 0 → ⊥
 suc-zero n e = omega (arith, e)
 
 -- bodies, operands and arguments
@@ -202,7 +202,7 @@ service-gives (service.MakeTimer name thread) p h = refl
 service-gives service.UnscheduleTimer p h = refl
 
 -- the first form, or the constant NIL
-first-one : (p : ℕ) (u : Forms) → Ones u → GivesOne (first_of p (points_of u))
+pub first-one : (p : ℕ) (u : Forms) → Ones u → GivesOne (first_of p (points_of u))
 first-one p NoTrees o h = refl
 first-one p (Tree k q u more) o h = o.0 h
 

@@ -14,3 +14,7 @@ pub mod Tasked
 pub mod Unfolded
 pub mod Steps
 pub mod Handlers
+pub mod Fitting
+pub mod Fine
+pub mod Sounding
+pub mod Whole

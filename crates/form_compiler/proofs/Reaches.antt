@@ -74,7 +74,7 @@ none-less zero h e = same (total h)
 none-less (suc n) h e = absurd (positive n e)
 
 -- what follows of the forms beside a form, wherever they stand
-besides : (standing : Standing) (under beside : Seat → Type 0) (A : Type 0) → ((s : Seat) → beside s → A) → Stand standing under beside → A
+pub besides : (standing : Standing) (under beside : Seat → Type 0) (A : Type 0) → ((s : Seat) → beside s → A) → Stand standing under beside → A
 besides Misplaced under beside A f s = absurd s
 besides (Stands u b) under beside A f s = f b s.1
 

@@ -9,3 +9,5 @@ pub mod Marks
 pub mod Tasks
 pub mod Steps
 pub mod Lists
+pub mod Fits
+pub mod Sound
