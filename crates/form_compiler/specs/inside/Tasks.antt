@@ -233,10 +233,11 @@ module _ (names : List FunctionName) where
   abbrev pub framed : Opening → (n : ℕ) → Site → Holding → List Task → List Task
   framed o n s h ts = enter o s h ∷ (Body n s.place (inside o h) ∷ (leave o s h ∷ ts))
 
-  -- a body in which a variable is bound, where this is held before
+  -- a body in which a variable is bound, where this is held before; it takes away the values of the other variables
   abbrev pub binding : (x above : ℕ) → Site → Holding → List Task → List Task
   binding x above s h ts =
-      act_task (act.BindLocal x above) s h ∷ (Body s.forms s.place (bound h) ∷ (act_task act.ForgetLocal s (one_more (bound h)) ∷ ts))
+      act_task (act.BindLocal x above) s h
+        ∷ (Body s.forms s.place (bound h) ∷ (act_task act.ForgetLocal s (one_more (without above (bound h))) ∷ ts))
 
   -- a clause goes on with a jump
   abbrev pub onward : Site → Task
