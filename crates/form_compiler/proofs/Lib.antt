@@ -7,3 +7,4 @@ pub mod Known
 pub mod Joined
 pub mod Gives
 pub mod Reaches
+pub mod Heights
