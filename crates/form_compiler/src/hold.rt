@@ -57,13 +57,20 @@ impl Hold {
     }
 
     /// With so many operands fewer, or none.
-    #[tactic(auto, using(crate::proofs::Heights::without_so_many))]
     pub fn without(self, count: u32) -> Self
+        ensures { result ≡ Held.without count self }
+    {
+        self.fewer(count as usize)
+    }
+
+    /// With so many operands fewer, or none.
+    #[tactic(auto, using(crate::proofs::Heights::without_so_many))]
+    pub(crate) fn fewer(self, count: usize) -> Self
         ensures { result ≡ Held.without count self }
     {
         Hold {
             opened: self.opened,
-            height: self.height.saturating_sub(count),
+            height: (self.height as usize).saturating_sub(count) as u32,
         }
     }
 
@@ -123,9 +130,7 @@ impl Hold {
         match opening {
             Opening::Bind(_, above) => self.without(*above).without_one(),
             Opening::Catch => self.without_one(),
-            Opening::Deadline { seconds, replaces } => {
-                self.without(written(*seconds, *replaces) as u32)
-            }
+            Opening::Deadline { seconds, replaces } => self.fewer(written(*seconds, *replaces)),
             Opening::Block(_)
             | Opening::WithoutInterrupts(_)
             | Opening::AllowWithInterrupts(_)

@@ -1,14 +1,16 @@
 //! Compiles programs: their points, laid out as code.
 #![tactic(auto)]
 
-mod lengths;
+pub mod extent;
+mod held;
 pub mod hold;
+pub mod laws;
+mod lengths;
+mod light;
 pub mod mark;
 mod names;
-mod unbuilt;
-pub mod extent;
 mod operands;
 pub mod row;
 mod sizes;
 pub mod task;
-pub mod laws;
+mod unbuilt;
