@@ -63,7 +63,7 @@ impl Hold {
         self.fewer(count as usize)
     }
 
-    /// With so many operands fewer, or none.
+    /// The same, where the count may be larger than any number of operands.
     #[tactic(auto, using(crate::proofs::Heights::without_so_many))]
     pub(crate) fn fewer(self, count: usize) -> Self
         ensures { result ≡ Held.without count self }

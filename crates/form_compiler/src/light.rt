@@ -28,7 +28,7 @@ pub(crate) fn light(instr: Instr, place: Place, hold: Hold, held: u32) -> Light
     })
 }
 
-/// An instruction by which all that another line holds is held.
+/// An instruction of the form at a place, by which all the values of `held_of` are held.
 pub(crate) fn plain_light(
     instr: Instr,
     place: Place,
