@@ -18,3 +18,4 @@ pub mod Fitting
 pub mod Fine
 pub mod Sounding
 pub mod Whole
+pub mod Heights

@@ -5,6 +5,7 @@ pub mod extent;
 pub mod laws;
 mod lengths;
 pub mod hold;
+mod held;
 mod light;
 pub mod mark;
 mod names;

@@ -290,11 +290,68 @@ module _ (names : List FunctionName) where
   abbrev pub acting : ℕ → Act → Site → List Task → List Task
   acting n a s ts = Operands n s.forms s.place s.holding ∷ (act_task a s (full n s) ∷ ts)
 
+<<<<<<< HEAD
+=======
+  abbrev pub asking : ℕ → Question → Site → List Task → List Task
+  asking n q s ts = Operands n s.forms s.place s.holding ∷ (ask_task q s (full n s) ∷ ts)
+
+  -- so many forms as a body in a frame
+  abbrev pub framed : Opening → (n : ℕ) → Site → Holding → List Task → List Task
+  framed o n s h ts = enter o s h ∷ (Body n s.place (inside o h) ∷ (leave o s h ∷ ts))
+
+>>>>>>> 65f3b536087f6bb488c19845ab735760fa0f8e76
   -- a body in which a variable is bound, where this is held before; it takes away the values of the other variables
   abbrev pub binding : (x above : ℕ) → Site → Holding → List Task → List Task
   binding x above s h ts =
       act_task (act.BindLocal x above) s h
         ∷ (Body s.forms s.place (bound h) ∷ (act_task act.ForgetLocal s (one_more (without above (bound h))) ∷ ts))
+<<<<<<< HEAD
+=======
+
+  -- a clause goes on with a jump
+  abbrev pub onward : Site → Task
+  onward s = Write (mark (i.Jump s.way.to) s.way.place (one_more s.holding) (total s.holding))
+
+  abbrev pub choosing : Site → List Task → List Task
+  choosing s ts =
+      Part s.forms s.place s.holding
+        ∷ (Write (mark (i.Branch s.second) s.place (one_more s.holding) (total s.holding))
+        ∷ (Part (less s.forms) s.place s.holding
+        ∷ (Write (mark (i.Jump s.end) s.place (one_more s.holding) (total s.holding))
+        ∷ (Part (less (less s.forms)) s.place s.holding ∷ (Skip (less (less (less s.forms))) ∷ ts)))))
+
+  abbrev pub looping : Site → List Task → List Task
+  looping s ts =
+      Part s.forms s.place s.holding
+        ∷ (Write (mark (i.LoopTest s.end) s.place (one_more s.holding) (total (one_more s.holding)))
+        ∷ (Body (less s.forms) s.place s.holding
+        ∷ (Write (mark (i.Do act.Discard) s.place (one_more s.holding) (total s.holding))
+        ∷ (Write (mark (i.Jump s.at) s.place s.holding (total s.holding)) ∷ ts))))
+
+  abbrev pub protecting : Site → List Task → List Task
+  protecting s ts =
+      Write (mark (i.EnterProtect s.second) s.place s.holding (total s.holding))
+        ∷ (Part s.forms s.place s.holding
+        ∷ (Write (mark i.LeaveProtect s.place (one_more s.holding) (total s.holding))
+        ∷ (Body (less s.forms) s.place s.holding
+        ∷ (Write (mark i.LeaveCleanup s.place (one_more s.holding) (total s.holding)) ∷ ts))))
+
+  -- a `handler-case` after the line that opens its frame
+  abbrev pub handling : Site → List Task → List Task
+  handling s ts =
+      Part s.forms s.place s.holding
+        ∷ (Write (mark (i.LeaveHandler s.end) s.place (one_more s.holding) (total s.holding))
+        ∷ (Clauses (less s.forms) s.end s.place s.holding ∷ ts))
+
+  -- the operands that are written, and then the others as a body in a frame
+  abbrev pub deadline_tasks : (seconds replaces : Bool) → Site → List Task → List Task
+  deadline_tasks true true s ts =
+      Part s.forms s.place s.holding
+        ∷ (Part (less s.forms) s.place (one_more s.holding)
+        ∷ framed (opening.Deadline true true) (less (less s.forms)) s (full 2 s) ts)
+  deadline_tasks false false s ts = framed (opening.Deadline false false) s.forms s s.holding ts
+  deadline_tasks a b s ts = Part s.forms s.place s.holding ∷ framed (opening.Deadline a b) (less s.forms) s (full 1 s) ts
+>>>>>>> 65f3b536087f6bb488c19845ab735760fa0f8e76
 
   -- the tasks of a form of this kind
   abbrev pub schedule : CoreKind → Site → List Task → List Task
