@@ -135,7 +135,7 @@ fine-act p at a h t u l =
       leaves = left-act (is_exit a) a h.height (λ e. subst (λ n. n ≤ most_operands) same (at-most (after_act a h).height (held_by a h) most_operands (act-held a h e) u));
       goes_on = goes-act p (is_exit a) a at h.height (subst (λ n. Lies p (on (suc at) n)) same l);
       in_range = act-named a h u;
-      lands = tt
+      lands = tt;
     }
 
 -- a call of a function that is there
@@ -148,7 +148,7 @@ fine-call p at function count h t u r l =
       leaves = subst (λ n. n ≤ most_operands) same (at-most (suc (fewer count h.height)) (total (one_more (without count h))) most_operands (part h.opened (suc (fewer count h.height))) u);
       goes_on = All-cons (Lies p) (on (suc at) (replaced count 1 h.height)) [] (subst (λ n. Lies p (on (suc at) n)) same l) (All-nil (Lies p));
       in_range = r;
-      lands = tt
+      lands = tt;
     }
 
 -- questions
@@ -209,7 +209,7 @@ fine-question p at q h t u known l = record {
   leaves = at-most (left_by_question q h.height) (held_at q h) most_operands (question-left q h) u;
   goes_on = goes-question p q at h.height (subst (λ n. Lies p (on (suc at) n)) (question-after q h t) l);
   in_range = known;
-  lands = tt
+  lands = tt;
 }
 
 pub two-goings : (p : Parts) (g k : Going) → Lies p g → Lies p k → All (Lies p) (g ∷ (k ∷ []))
@@ -223,7 +223,7 @@ fine-test p at to q h t u known l m = record {
   goes_on = two-goings p (on (suc at) h.height) (on to (replaced (question_takes q) (question_leaves q) h.height)) l
       (subst (λ n. Lies p (on to n)) (question-after q h t) m);
   in_range = known;
-  lands = tt
+  lands = tt;
 }
 
 -- points that open a frame
@@ -264,7 +264,7 @@ fine-opening p at back o h t u known l m =
       goes_on = two-goings p (on (suc at) (replaced (opening_takes o) (opening_leaves o) h.height)) (on back (replaced (opening_takes o) 1 h.height))
           (subst (λ n. Lies p (on (suc at) n)) same l) (subst (λ n. Lies p (on back n)) (replaced-one (opening_takes o) h.height) m);
       in_range = opening-named p.specials o h u known;
-      lands = tt
+      lands = tt;
     }
 
 -- jumps and branches
@@ -277,7 +277,7 @@ fine-branch p at to n t l m = record {
   leaves = few;
   goes_on = two-goings p (on (suc at) (n - 1)) (on to (n - 1)) (subst (λ k. Lies p (on (suc at) k)) (low-minus n) l) (subst (λ k. Lies p (on to k)) (low-minus n) m);
   in_range = tt;
-  lands = tt
+  lands = tt;
 }
 
 some-one : (n : ℕ) → 1 ≤ suc n
@@ -292,7 +292,7 @@ fine-loop p at to n u l m = record {
   leaves = u;
   goes_on = two-goings p (on (suc at) (suc n - 1)) (on to (suc n)) (subst (λ k. Lies p (on (suc at) k)) (suc-minus n) l) m;
   in_range = tt;
-  lands = tt
+  lands = tt;
 }
 
 pub fine-jump : (p : Parts) (at to n : ℕ) → Lies p (on to n) → (to ≤ at → IsNoJump (get_or p.instrs to i.Leave)) → IsFine p at n (i.Jump to)
@@ -328,5 +328,5 @@ fine-end p at h t u = record {
   leaves = at-most (left_by_question question.EndThread h.height) (held_at question.EndThread h) most_operands (question-left question.EndThread h) u;
   goes_on = All-nil (Lies p);
   in_range = tt;
-  lands = tt
+  lands = tt;
 }

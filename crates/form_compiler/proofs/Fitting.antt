@@ -304,21 +304,35 @@ handler-fits ss p (Tree kind q u b) h g f =
 -- a body round which a variable is open
 within-fits : (ss : List ℕ) (n x p : ℕ) (u : Forms) (h : Holding) → AreGiving (Bound n) u → AreFit ss u → suc n ≤ h.height
     → Fits ss h (Do (act.BindLocal x n) p (joined (body_of p (points_of u)) (Do act.ForgetLocal p Done)))
-within-fits ss n x p u h g f l =
-    (l, fits-joined ss (bound h) (body_of p (points_of u)) (Do act.ForgetLocal p Done) (bound-fits ss n p u (bound h) g f (above-pred n h.height l))
-    (none (rise (bound h) (body_of p (points_of u))).height, tt))
+within-fits ss n x p u h g f l = (
+  l,
+  fits-joined ss (bound h) (body_of p (points_of u)) (Do act.ForgetLocal p Done) (bound-fits ss n p u (bound h) g f (above-pred n h.height l))
+      (none (rise (bound h) (body_of p (points_of u))).height, tt),
+)
 
 clause-body : (ss : List ℕ) (x p : ℕ) (u : Forms) (h : Holding) → Ones u → AllFit ss u
     → Fits ss (one_more h) (Do (act.BindLocal x 0) p (joined (body_of p (points_of u)) (Do act.ForgetLocal p Done)))
-clause-body ss x p u h o f =
-    (some-one h.height, fits-joined ss (bound (one_more h)) (body_of p (points_of u)) (Do act.ForgetLocal p Done) (body-fits ss p u (bound (one_more h)) o f)
-    (none (rise (bound (one_more h)) (body_of p (points_of u))).height, tt))
+clause-body ss x p u h o f = (
+  some-one h.height,
+  fits-joined ss (bound (one_more h)) (body_of p (points_of u)) (Do act.ForgetLocal p Done) (body-fits ss p u (bound (one_more h)) o f)
+      (none (rise (bound (one_more h)) (body_of p (points_of u))).height, tt),
+)
 
 binding-fits : (ss : List ℕ) (s n p : ℕ) (u : Forms) (h : Holding) → IsOneOf s ss → AreGiving (Bound n) u → AreFit ss u → suc n ≤ h.height
     → Fits ss h (Enter (opening.Bind s n) p (body_of p (points_of u)) Done)
-binding-fits ss s n p u h i g f l =
-    (l, (i, ((bound-fits ss n p u (bound h) g f (above-pred n h.height l),
-      ap (λ (m : Holding). m.height) (rise-bound n p u g (bound h)) ∙ ap suc (fewer-pred n h.height)), tt)))
+binding-fits ss s n p u h i g f l = (
+  l,
+  (
+    i,
+    (
+      (
+        bound-fits ss n p u (bound h) g f (above-pred n h.height l),
+        ap (λ (m : Holding). m.height) (rise-bound n p u g (bound h)) ∙ ap suc (fewer-pred n h.height),
+      ),
+      tt,
+    ),
+  ),
+)
 
 call-fits : (ss : List ℕ) (f p : ℕ) (u : Forms) (h : Holding) → Ones u → AllFit ss u
     → Fits ss h (joined (all_of (points_of u)) (Do (act.Call f (length (points_of u))) p Done))
@@ -336,8 +350,19 @@ kind-fits pr (k.Local x) p u i g f = λ h. (none h.height, tt)
 kind-fits pr (k.Special s) p u i g f = λ h. (none h.height, (i, tt))
 kind-fits pr (k.SetLocal x) p u i g f = λ h. then-fits pr.specials 1 p u h (Do (act.WriteLocal x) p Done) (ones u g) (each-fits pr.specials u g f) (some-one h.height, tt)
 kind-fits pr (k.SetSpecial s) p u i g f = λ h. then-fits pr.specials 1 p u h (Ask (question.Write s) p Done) (ones u g) (each-fits pr.specials u g f) (some-one h.height, (i, tt))
-kind-fits pr (k.Defvar s) p u i g f = λ h. (none h.height, (i, ((then-fits pr.specials 1 p u h (Ask (question.Define s) p Done) (ones u g) (each-fits pr.specials u g f) (some-one h.height, (i, tt)),
-      lifted h (table (k.Defparameter s) p (points_of u)) (kind-gives (k.Defparameter s) p u g)), tt)))
+kind-fits pr (k.Defvar s) p u i g f = λ h. (
+  none h.height,
+  (
+    i,
+    (
+      (
+        then-fits pr.specials 1 p u h (Ask (question.Define s) p Done) (ones u g) (each-fits pr.specials u g f) (some-one h.height, (i, tt)),
+        lifted h (table (k.Defparameter s) p (points_of u)) (kind-gives (k.Defparameter s) p u g),
+      ),
+      tt,
+    ),
+  ),
+)
 kind-fits pr (k.Defparameter s) p u i g f = λ h. then-fits pr.specials 1 p u h (Ask (question.Define s) p Done) (ones u g) (each-fits pr.specials u g f) (some-one h.height, (i, tt))
 kind-fits pr (k.Defun f') p u i g f = λ h. (none h.height, tt)
 kind-fits pr (k.CompareAndSwap s) p u i g f = λ h. then-fits pr.specials 2 p u h (Ask (question.CompareAndSwap s) p Done) (ones u g) (each-fits pr.specials u g f) (enough 2 h, (i, tt))

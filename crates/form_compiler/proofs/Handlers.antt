@@ -1,7 +1,6 @@
 -- A `handler-case` is taken up.
-use Rattle.std.proofs.Common.{◌≡◌, ◌≤◌, ◌<◌, ◌^◌, ℕ, zero, suc, ◌+◌, min, List, [], ◌∷◌, ◌++◌, Bool, true, false, length, drop, get_or, refl, ap, sym, subst, ◌∙◌, arith, add-one, append_assoc, length-append}
+use Rattle.std.proofs.Common.{◌≡◌, ◌≤◌, ◌<◌, ◌^◌, ℕ, suc, ◌+◌, min, List, [], ◌∷◌, ◌++◌, true, false, length, drop, get_or, refl, ap, sym, subst, ◌∙◌, arith, append_assoc, length-append}
 use Rattle.lisp_base.specs.Forest.{NoTrees, Tree, behind, count_of, front}
-use Rattle.lisp_base.specs.declared.condition.Class.{Class}
 use Rattle.lisp_base.specs.declared.id.FunctionName.{FunctionName}
 use Rattle.lisp_program.specs.Forms.{Forms, forms_of}
 use Rattle.lisp_program.specs.WellMade.{Clauses, Guarded, Gives, Binds, Handles, Role, Stand, role_of, standing}
@@ -10,13 +9,13 @@ use Rattle.lisp_program.specs.declared.form.CoreKind.TheVariants as k
 use Rattle.lisp_program.specs.declared.form.FormNode.{FormNode}
 use Rattle.form_points.specs.Points.{Points, all_of}
 use Rattle.form_points.specs.Table.{points_of, table}
-use Rattle.lisp_code.specs.Held.{Holding, total}
+use Rattle.lisp_code.specs.Held.{total}
 use Rattle.lisp_code.specs.Lines.{EntersHandler, Placed, clauses_at, laid, no_way, past, placed, size}
 use Rattle.lisp_code.specs.declared.instr.Clause.{Clause}
 use Rattle.form_compiler.specs.declared.extent.Extent.{Extent}
 use Rattle.form_compiler.specs.declared.task.Task.{Task}
 use Rattle.form_compiler.specs.inside.Extents.{MOST, extent_of}
-use Rattle.form_compiler.specs.inside.Gives.{AreGiving, GivesAs}
+use Rattle.form_compiler.specs.inside.Gives.{AreGiving}
 use Rattle.form_compiler.specs.inside.Steps.{AreReady, Stepped, most_lines}
 use Rattle.form_compiler.specs.inside.Tasks.{Site, beside_of, first, handling, less, others, run, starts, weight}
 use Rattle.form_compiler.proofs.Known.{node_at}
@@ -83,7 +82,7 @@ module _ (names : List FunctionName) where
   pub handler_written : (s : Site) (u b : Forms) (ts : List Task) (row : List Clause) → AreGiving Guarded u → s.forms ≡ count_of u
       → s.end ≡ past s.at (table k.HandlerCase s.place (points_of u))
       → row ≡ starts (less s.forms) (suc (past (suc s.at) (first (beside_of u b)))) (others (beside_of u b))
-      → placed (EntersHandler row) s.place s.holding (total s.holding) ∷ run names (suc s.at) (handling names s ts) (beside_of u b)
+      → placed (EntersHandler row) s.place s.holding (total s.holding) ∷ run names (suc s.at) (handling s ts) (beside_of u b)
       ≡ laid names no_way s.holding s.at (table k.HandlerCase s.place (points_of u)) (run names (past s.at (table k.HandlerCase s.place (points_of u))) ts b)
   handler_written s NoTrees b ts row g c e r = absurd g
   handler_written s (Tree kind q u more) b ts row g c e r =
@@ -91,7 +90,7 @@ module _ (names : List FunctionName) where
       let start : ℕ = suc (past (suc s.at) (table kind q (points_of u))) in
       let row' : row ≡ clauses_at start (all_of (points_of more)) =
       r ∙ ap (λ m. starts (less m) start (beside_of more b)) c ∙ starts-beside more b start clauses in
-      ap (λ l. placed (EntersHandler l) s.place s.holding (total s.holding) ∷ run names (suc s.at) (handling names s ts) (beside_of (Tree kind q u more) b)) row'
+      ap (λ l. placed (EntersHandler l) s.place s.holding (total s.holding) ∷ run names (suc s.at) (handling s ts) (beside_of (Tree kind q u more) b)) row'
       ∙ handler_scheduled names s kind q u more b ts clauses c e
 
 -- a list with one more, and what comes after it
@@ -109,8 +108,8 @@ pub handler_taken : (names : List FunctionName) (nodes : List FormNode) (at : �
     → lines' ≡ lines ++ (placed (EntersHandler row) s.place s.holding (total s.holding) ∷ [])
     → length lines + size (first (forms_of (drop at nodes))) ≤ most_lines
     → ((f : Forms) → run names (length lines) (t ∷ ts) (Tree k.HandlerCase n.place (front n.parts (forms_of (drop (at + 1) nodes))) f)
-      ≡ laid names no_way s.holding (length lines) (table k.HandlerCase n.place (points_of (front n.parts (forms_of (drop (at + 1) nodes))))) (run names (past (length lines) (table k.HandlerCase n.place (points_of (front n.parts (forms_of (drop (at + 1) nodes)))))) ts f))
-    → ts' ≡ handling names s ts → weight ts' ≤ weight ts + 2 ^ 79 → Stepped names nodes t ts at lines ts' lines' (at + 1)
+    ≡ laid names no_way s.holding (length lines) (table k.HandlerCase n.place (points_of (front n.parts (forms_of (drop (at + 1) nodes))))) (run names (past (length lines) (table k.HandlerCase n.place (points_of (front n.parts (forms_of (drop (at + 1) nodes)))))) ts f))
+    → ts' ≡ handling s ts → weight ts' ≤ weight ts + 2 ^ 79 → Stepped names nodes t ts at lines ts' lines' (at + 1)
 handler_taken names nodes at d n e t s ts ts' lines lines' row h is is' m kind at' pl forms end r new room same tasks light =
     let f : Forms = forms_of (drop (at + 1) nodes) in
     let u : Forms = front n.parts f in
@@ -129,16 +128,16 @@ handler_taken names nodes at d n e t s ts ts' lines lines' row h is is' m kind a
     let forms' : s.forms ≡ count_of u = forms ∙ ap (λ (x : Extent). x.forms) is' in
     let r' : row ≡ starts (less s.forms) (suc (past (suc s.at) (first (beside_of u b)))) (others (beside_of u b)) = rw whole r in
     let opener : Placed = placed (EntersHandler row) s.place s.holding (total s.holding) in
-    let written : opener ∷ run names (suc s.at) (handling names s ts) (beside_of u b)
-      ≡ laid names no_way s.holding s.at (table k.HandlerCase s.place us) (run names (past s.at (table k.HandlerCase s.place us)) ts b) =
+    let written : opener ∷ run names (suc s.at) (handling s ts) (beside_of u b)
+    ≡ laid names no_way s.holding s.at (table k.HandlerCase s.place us) (run names (past s.at (table k.HandlerCase s.place us)) ts b) =
     handler_written names s u b ts row ready'.0 forms' (rw pl end') r' in
     let moved : laid names no_way s.holding s.at (table k.HandlerCase s.place us) (run names (past s.at (table k.HandlerCase s.place us)) ts b)
-      ≡ laid names no_way s.holding (length lines) (table k.HandlerCase n.place us) (run names (past (length lines) (table k.HandlerCase n.place us)) ts b) =
+    ≡ laid names no_way s.holding (length lines) (table k.HandlerCase n.place us) (run names (past (length lines) (table k.HandlerCase n.place us)) ts b) =
     ap (λ a. laid names no_way s.holding a (table k.HandlerCase s.place us) (run names (past a (table k.HandlerCase s.place us)) ts b)) at'
     ∙ ap (λ q. laid names no_way s.holding (length lines) (table k.HandlerCase q us) (run names (past (length lines) (table k.HandlerCase q us)) ts b)) pl in
     let longer : length lines' ≡ suc s.at = ap length new ∙ one-longer lines opener ∙ ap suc (sym at') in
-    let begun : lines' ++ run names (length lines') ts' (beside_of u b) ≡ lines ++ (opener ∷ run names (suc s.at) (handling names s ts) (beside_of u b)) =
+    let begun : lines' ++ run names (length lines') ts' (beside_of u b) ≡ lines ++ (opener ∷ run names (suc s.at) (handling s ts) (beside_of u b)) =
     ap (λ a. lines' ++ run names a ts' (beside_of u b)) longer ∙ ap (λ x. lines' ++ run names (suc s.at) x (beside_of u b)) tasks
-    ∙ ap (λ l. l ++ run names (suc s.at) (handling names s ts) (beside_of u b)) new ∙ after-one lines _ opener in
+    ∙ ap (λ l. l ++ run names (suc s.at) (handling s ts) (beside_of u b)) new ∙ after-one lines _ opener in
     form_stepped names nodes at d n t ts ts' lines lines' h is m
     (begun ∙ ap (λ r. lines ++ r) (written ∙ moved ∙ sym (same b) ∙ ap (λ x. run names (length lines) (t ∷ ts) (Tree x n.place u b)) (sym kind))) light

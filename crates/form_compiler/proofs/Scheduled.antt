@@ -1,36 +1,29 @@
 -- The tasks of a form write its lines, and then what the other tasks write.
-use Rattle.std.proofs.Common.{◌≡◌, ℕ, zero, suc, List, [], ◌∷◌, true, false, Some, None, Option, refl, ap, sym, ◌∙◌}
-use Rattle.lisp_base.specs.Forest.{NoTrees, Tree, behind, count_of}
+use Rattle.std.proofs.Common.{◌≡◌, ℕ, suc, List, [], ◌∷◌, true, false, Some, None, Option, refl, ap, ◌∙◌}
+use Rattle.lisp_base.specs.Forest.{behind, count_of}
 use Rattle.lisp_base.specs.declared.id.FunctionName.{FunctionName}
-use Rattle.lisp_base.specs.declared.value.Node.TheVariants.{Symbol}
 use Rattle.lisp_program.specs.Forms.{Forms}
-use Rattle.lisp_program.specs.WellMade.{Each, Values, Bound, Guarded, role_of}
-use Rattle.lisp_program.specs.declared.form.CoreKind.{CoreKind}
-use Rattle.lisp_program.specs.declared.form.CoreKind.TheVariants as k
 use Rattle.lisp_program.specs.declared.function.Service.{Service}
 use Rattle.lisp_program.specs.declared.function.Service.TheVariants as service
-use Rattle.form_points.specs.Operands.{operands, operands_of, printed_of, served_of}
-use Rattle.form_points.specs.Points.{Points, Done, Do, Ask, Test, Choose, Loop, Enter, Protect, Handle, When, all_of, body_of, joined}
-use Rattle.form_points.specs.Table.{points_of, service_of, table}
+use Rattle.form_points.specs.Operands.{operands, served_of}
+use Rattle.form_points.specs.Points.{Points, Done, Do, Ask, Enter, body_of, joined}
+use Rattle.form_points.specs.Table.{points_of, service_of}
 use Rattle.form_points.specs.declared.act.Act.{Act}
 use Rattle.form_points.specs.declared.act.Act.TheVariants as act
 use Rattle.form_points.specs.declared.act.Opening.{Opening}
-use Rattle.form_points.specs.declared.act.Opening.TheVariants as opening
 use Rattle.form_points.specs.declared.act.Question.{Question}
-use Rattle.form_points.specs.declared.act.Question.TheVariants as question
 use Rattle.lisp_code.specs.Held.{Holding, bound, held_in, inside, one_more, rise, without}
-use Rattle.lisp_code.specs.Lines.{Asks, Placed, Way, act_line, call_line, laid, no_way, past, placed, seat_of}
+use Rattle.lisp_code.specs.Lines.{act_line, call_line, laid, no_way, past}
 use Rattle.lisp_code.specs.Parts.{line_of}
 use Rattle.lisp_code.specs.declared.instr.Instr.TheVariants as instr
-use Rattle.form_compiler.specs.declared.mark.Mark.{Mark}
 use Rattle.form_compiler.specs.declared.task.Task.{Task}
 use Rattle.form_compiler.specs.declared.task.Task.TheVariants as task
-use Rattle.form_compiler.specs.inside.Gives.{AllButOne, AreGiving, Ones, seat_under, with_more}
+use Rattle.form_compiler.specs.inside.Gives.{AllButOne, Ones, with_more}
 use Rattle.form_compiler.specs.inside.Marks.{act_instr, act_mark, ask_mark, call_instr, mark, placed_of}
-use Rattle.form_compiler.specs.inside.Tasks.{Site, act_task, acting, alone_tasks, ask_task, asking, beside_of, binding, body, framed, full, less, nil_at, part, part_left, run, schedule, service_tasks}
-use Rattle.form_compiler.proofs.Gives.{bound-but_one, guarded, ones, ones-but_one, rise-all, rise-body, rise-bound, rise-operands, values-but_one}
+use Rattle.form_compiler.specs.inside.Tasks.{Site, beside_of, binding, framed, run, service_tasks}
+use Rattle.form_compiler.proofs.Gives.{rise-operands}
 use Rattle.form_compiler.proofs.Joined.{laid-joined, past-joined}
-use Rattle.form_compiler.proofs.Taken.{all-beside, all_lines-beside, behind-beside, body-beside, body_lines-beside, clause_lines-beside, wanted-beside, wanted_lines-beside}
+use Rattle.form_compiler.proofs.Taken.{behind-beside, body-beside, body_lines-beside, wanted-beside, wanted_lines-beside}
 
 -- points, and then others
 module _ (names : List FunctionName) where
@@ -110,7 +103,7 @@ module _ (names : List FunctionName) where
 
   -- a body in a frame
   pub entering : (o : Opening) (s : Site) (u b : Forms) (h : Holding) (at : ℕ) (ts : List Task) → AllButOne u → s.end ≡ past at (Enter o s.place (body_of s.place (points_of u)) Done)
-      → run names at (framed names o (count_of u) s h ts) (beside_of u b)
+      → run names at (framed o (count_of u) s h ts) (beside_of u b)
       ≡ laid names no_way h at (Enter o s.place (body_of s.place (points_of u)) Done) (run names (past at (Enter o s.place (body_of s.place (points_of u)) Done)) ts b)
   entering o s u b h at ts a e =
       rw (body-beside s.place u b, behind-beside u b, e)

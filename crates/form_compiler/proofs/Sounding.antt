@@ -292,9 +292,9 @@ module _ (p : Parts) (names : List FunctionName) (ls : List Placed) (c : IsLaidO
   clauses-lie way h at (When class is_given chosen others) next f e =
       All-cons (Lies p) (clause_going h.height (record { class = class; is_given = is_given; start = at })) _
       (subst (λ n. Lies p (on at n)) (given-height is_given h)
-        (lies at (given is_given h).height _ e (begins names no_way p.specials (given is_given h) at chosen _ f.0.0 f.0.1)))
+      (lies at (given is_given h).height _ e (begins names no_way p.specials (given is_given h) at chosen _ f.0.0 f.0.1)))
       (clauses-lie way h (suc (past at chosen)) others next f.1
-        (drop-suc (past at chosen) ls _ _ (drop-laid names no_way ls (given is_given h) at chosen _ e)))
+      (drop-suc (past at chosen) ls _ _ (drop-laid names no_way ls (given is_given h) at chosen _ e)))
 
   mutual
     pub laid-sound : (way : Way) (h : Holding) (at : ℕ) (points : Points) (next : List Placed) → Fits p.specials h points
@@ -309,9 +309,10 @@ module _ (p : Parts) (names : List FunctionName) (ls : List Placed) (c : IsLaidO
     laid-sound way h at (Ask q r after) next f e b s =
         let rest : List Placed = laid names way (after_question q h) (suc at) after next in
         let e1 : drop (suc at) ls ≡ rest = drop-suc at ls _ _ e in
-        let b1 : Begins (after_question q h).height rest = begins names way p.specials (after_question q h) (suc at) after next f.1.1 b in
-        (fine-question p at q h f.0 (held at _ _ e) f.1.0 (lies (suc at) (after_question q h).height rest e1 b1),
-          laid-sound way (after_question q h) (suc at) after next f.1.1 e1 b s)
+        let b1 : Begins (after_question q h).height rest = begins names way p.specials (after_question q h) (suc at) after next f.1.1 b in (
+          fine-question p at q h f.0 (held at _ _ e) f.1.0 (lies (suc at) (after_question q h).height rest e1 b1),
+          laid-sound way (after_question q h) (suc at) after next f.1.1 e1 b s,
+        )
     laid-sound way h at (Test q r more after) next f e b s =
         let end : ℕ = past (suc at) more in
         let rest : List Placed = laid names way (after_question q h) end after next in
@@ -320,9 +321,10 @@ module _ (p : Parts) (names : List FunctionName) (ls : List Placed) (c : IsLaidO
         let b2 : Begins (after_question q h).height rest = begins names way p.specials (after_question q h) end after next f.1.1.1 b in
         let s2 : AreSound p end rest = laid-sound way (after_question q h) end after next f.1.1.1 e2 b s in
         let b' : Begins (rise h more).height rest = begins-as (rise h more).height (after_question q h).height rest f.1.1.0.1 b2 in
-        let b1 : Begins h.height (laid names no_way h (suc at) more rest) = begins names no_way p.specials h (suc at) more rest f.1.1.0.0 b' in
-        (fine-test p at end q h f.0 (held at _ _ e) f.1.0 (lies (suc at) h.height _ e1 b1) (lies end (after_question q h).height rest e2 b2),
-          laid-sound no_way h (suc at) more rest f.1.1.0.0 e1 b' s2)
+        let b1 : Begins h.height (laid names no_way h (suc at) more rest) = begins names no_way p.specials h (suc at) more rest f.1.1.0.0 b' in (
+          fine-test p at end q h f.0 (held at _ _ e) f.1.0 (lies (suc at) h.height _ e1 b1) (lies end (after_question q h).height rest e2 b2),
+          laid-sound no_way h (suc at) more rest f.1.1.0.0 e1 b' s2,
+        )
     laid-sound way h at (Choose q x y after) next f e b s =
         let low : Holding = without 1 h in
         let jump : ℕ = past (suc at) x in
@@ -341,9 +343,10 @@ module _ (p : Parts) (names : List FunctionName) (ls : List Placed) (c : IsLaidO
         let s3 : AreSound p (suc jump) second = laid-sound no_way low (suc jump) y rest f.1.1.0.0 e3 by s4 in
         let s2 : AreSound p jump (turn ∷ second) =
         (fine-jump p jump end (suc low.height) (lies end (suc low.height) rest e4 b4) (λ l. absurd (not-back jump end (past-grows (suc jump) y) l)), s3) in
-        let b1 : Begins low.height (laid names no_way low (suc at) x (turn ∷ second)) = begins names no_way p.specials low (suc at) x (turn ∷ second) f.1.0.0 f.1.0.1 in
-        (fine-branch p at (suc jump) h.height f.0 (lies (suc at) low.height _ e1 b1) (lies (suc jump) low.height second e3 b3),
-          laid-sound no_way low (suc at) x (turn ∷ second) f.1.0.0 e1 f.1.0.1 s2)
+        let b1 : Begins low.height (laid names no_way low (suc at) x (turn ∷ second)) = begins names no_way p.specials low (suc at) x (turn ∷ second) f.1.0.0 f.1.0.1 in (
+          fine-branch p at (suc jump) h.height f.0 (lies (suc at) low.height _ e1 b1) (lies (suc jump) low.height second e3 b3),
+          laid-sound no_way low (suc at) x (turn ∷ second) f.1.0.0 e1 f.1.0.1 s2,
+        )
     laid-sound way h at (Loop q test body after) next f e b s =
         let judge : ℕ = past at test in
         let forget : ℕ = past (suc judge) body in
@@ -366,9 +369,11 @@ module _ (p : Parts) (names : List FunctionName) (ls : List Placed) (c : IsLaidO
         (fine-act p forget act.Discard (one_more h) (one-some h.height) (held forget drops (back ∷ rest) e3) (lies (suc forget) h.height (back ∷ rest) e4 refl), s4) in
         let b2 : Begins h.height round = begins names no_way p.specials h (suc judge) body (drops ∷ (back ∷ rest)) f.1.0.0 f.1.0.1 in
         let s2 : AreSound p (suc judge) round = laid-sound no_way h (suc judge) body (drops ∷ (back ∷ rest)) f.1.0.0 e2 f.1.0.1 s3 in
-        let s1 : AreSound p judge (tests ∷ round) =
-        (fine-loop p judge (suc (suc forget)) h.height (height-held (one_more h) (held judge tests round e1)) (lies (suc judge) h.height round e2 b2)
-          (lies (suc (suc forget)) (suc h.height) rest e5 b5), s2) in
+        let s1 : AreSound p judge (tests ∷ round) = (
+          fine-loop p judge (suc (suc forget)) h.height (height-held (one_more h) (held judge tests round e1)) (lies (suc judge) h.height round e2 b2)
+              (lies (suc (suc forget)) (suc h.height) rest e5 b5),
+          s2,
+        ) in
         laid-sound no_way h at test (tests ∷ round) f.0.0 e f.0.1 s1
     laid-sound way h at (Turn q test body after) next f e b s = absurd f
     laid-sound way h at (Enter o q body after) next f e b s =
@@ -382,9 +387,10 @@ module _ (p : Parts) (names : List FunctionName) (ls : List Placed) (c : IsLaidO
         let s3 : AreSound p (suc leave) rest = laid-sound way (one_more (outside o h)) (suc leave) after next f.1.1.1 e3 b s in
         let s2 : AreSound p leave (ends ∷ rest) = (fine-leave p leave (outside o h).height, s3) in
         let b1 : Begins (inside o h).height (laid names no_way (inside o h) (suc at) body (ends ∷ rest)) =
-        begins names no_way p.specials (inside o h) (suc at) body (ends ∷ rest) f.1.1.0.0 f.1.1.0.1 in
-        (fine-opening p at (suc leave) o h f.0 (held at _ _ e) f.1.0 (lies (suc at) (inside o h).height _ e1 b1) (lies (suc leave) (suc (outside o h).height) rest e3 b3),
-          laid-sound no_way (inside o h) (suc at) body (ends ∷ rest) f.1.1.0.0 e1 f.1.1.0.1 s2)
+        begins names no_way p.specials (inside o h) (suc at) body (ends ∷ rest) f.1.1.0.0 f.1.1.0.1 in (
+          fine-opening p at (suc leave) o h f.0 (held at _ _ e) f.1.0 (lies (suc at) (inside o h).height _ e1 b1) (lies (suc leave) (suc (outside o h).height) rest e3 b3),
+          laid-sound no_way (inside o h) (suc at) body (ends ∷ rest) f.1.1.0.0 e1 f.1.1.0.1 s2,
+        )
     laid-sound way h at (Protect q body cleanup after) next f e b s =
         let turn : ℕ = past (suc at) body in
         let leave : ℕ = past (suc turn) cleanup in
@@ -403,9 +409,10 @@ module _ (p : Parts) (names : List FunctionName) (ls : List Placed) (c : IsLaidO
         let b3 : Begins h.height cleans = begins names no_way p.specials h (suc turn) cleanup (ends ∷ rest) f.1.0.0 f.1.0.1 in
         let s3 : AreSound p (suc turn) cleans = laid-sound no_way h (suc turn) cleanup (ends ∷ rest) f.1.0.0 e3 f.1.0.1 s4 in
         let s2 : AreSound p turn (turns ∷ cleans) = (fine-turn p turn h.height, s3) in
-        let b1 : Begins h.height (laid names no_way h (suc at) body (turns ∷ cleans)) = begins names no_way p.specials h (suc at) body (turns ∷ cleans) f.0.0 f.0.1 in
-        (fine-protect p at (suc turn) h.height (lies (suc at) h.height _ e1 b1) (lies (suc turn) h.height cleans e3 b3),
-          laid-sound no_way h (suc at) body (turns ∷ cleans) f.0.0 e1 f.0.1 s2)
+        let b1 : Begins h.height (laid names no_way h (suc at) body (turns ∷ cleans)) = begins names no_way p.specials h (suc at) body (turns ∷ cleans) f.0.0 f.0.1 in (
+          fine-protect p at (suc turn) h.height (lies (suc at) h.height _ e1 b1) (lies (suc turn) h.height cleans e3 b3),
+          laid-sound no_way h (suc at) body (turns ∷ cleans) f.0.0 e1 f.0.1 s2,
+        )
     laid-sound way h at (Handle q body clauses after) next f e b s =
         let leave : ℕ = past (suc at) body in
         let end : ℕ = past (suc leave) clauses in
@@ -422,10 +429,11 @@ module _ (p : Parts) (names : List FunctionName) (ls : List Placed) (c : IsLaidO
         let lie : Lies p (on end (suc h.height)) = lies end (suc h.height) rest e4 b4 in
         let s3 : AreSound p (suc leave) handles = clauses-sound on_way h (suc leave) clauses rest f.1.0 e3 (same end) lie s4 in
         let s2 : AreSound p leave (ends ∷ handles) = (fine-handled p leave end h.height lie, s3) in
-        let b1 : Begins h.height (laid names no_way h (suc at) body (ends ∷ handles)) = begins names no_way p.specials h (suc at) body (ends ∷ handles) f.0.0 f.0.1 in
-        (All-cons (Lies p) (on (suc at) h.height) (map (clause_going h.height) (clauses_at (suc leave) clauses)) (lies (suc at) h.height _ e1 b1)
-            (clauses-lie on_way h (suc leave) clauses rest f.1.0 e3),
-          laid-sound no_way h (suc at) body (ends ∷ handles) f.0.0 e1 f.0.1 s2)
+        let b1 : Begins h.height (laid names no_way h (suc at) body (ends ∷ handles)) = begins names no_way p.specials h (suc at) body (ends ∷ handles) f.0.0 f.0.1 in (
+          All-cons (Lies p) (on (suc at) h.height) (map (clause_going h.height) (clauses_at (suc leave) clauses)) (lies (suc at) h.height _ e1 b1)
+              (clauses-lie on_way h (suc leave) clauses rest f.1.0 e3),
+          laid-sound no_way h (suc at) body (ends ∷ handles) f.0.0 e1 f.0.1 s2,
+        )
     laid-sound way h at (When class is_given chosen others) next f e b s = absurd f
 
     clauses-sound : (way : Way) (h : Holding) (at : ℕ) (points : Points) (next : List Placed) → FitClauses p.specials h points

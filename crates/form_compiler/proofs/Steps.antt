@@ -1,29 +1,26 @@
 -- A task is taken up.
-use Rattle.std.proofs.Common.{◌≡◌, ◌≤◌, ◌<◌, ◌^◌, ◌*◌, ℕ, zero, suc, ◌+◌, ◌-◌, min, List, [], ◌∷◌, ◌++◌, Some, None, length, drop, get_or, refl, ap, sym, subst, ◌∙◌, arith, drop-cons, add-one, append-nil, length-append, append_assoc}
+use Rattle.std.proofs.Common.{◌≡◌, ◌≤◌, ◌<◌, ◌^◌, ℕ, zero, suc, ◌+◌, min, List, ◌∷◌, ◌++◌, length, drop, get_or, refl, ap, sym, subst, ◌∙◌, arith, drop-cons}
 use Rattle.std.proofs.lemmas.List.{drop-drop, length-drop}
 use Rattle.lisp_base.specs.Forest.{NoTrees, Tree, behind, count_of, front}
 use Rattle.lisp_base.specs.declared.id.FunctionName.{FunctionName}
 use Rattle.lisp_program.specs.Forms.{Forms, forms_of}
 use Rattle.lisp_program.specs.Program.{Program}
 use Rattle.lisp_program.specs.WellMade.{AreMade, Misplaced, Seat, Stand, Standing, Stands, role_of, standing}
-use Rattle.lisp_program.specs.declared.form.CoreKind.{CoreKind}
 use Rattle.lisp_program.specs.declared.form.FormNode.{FormNode}
 use Rattle.form_points.specs.Points.{Points, Done, Do, Ask, Test, Choose, Loop, Turn, Enter, Protect, Handle, When}
 use Rattle.form_points.specs.Table.{points_of, table}
-use Rattle.lisp_code.specs.Held.{Holding}
 use Rattle.lisp_code.specs.Lines.{Placed, Way, laid, past, size}
 use Rattle.form_compiler.specs.declared.extent.Extent.{Extent}
 use Rattle.form_compiler.specs.declared.task.Task.{Task}
 use Rattle.form_compiler.specs.declared.task.Task.TheVariants as task
 use Rattle.form_compiler.specs.inside.Extents.{MOST, extent_of, extents_of, nodes_in, under_of}
 use Rattle.form_compiler.specs.inside.Gives.{seat_under}
-use Rattle.form_compiler.specs.inside.Steps.{AreReady, Going, SHARE, Stepped, most_lines, to_come}
-use Rattle.form_compiler.specs.inside.Tasks.{IsLight, IsSecond, Site, all_tasks, beside_of, body_tasks, clause_tasks, first, operand_tasks, others, part_tasks, run, schedule, way_for, weight}
-use Rattle.form_compiler.proofs.Gives.{made-gives, under-made, beside-holds}
+use Rattle.form_compiler.specs.inside.Steps.{AreReady, Stepped, most_lines}
+use Rattle.form_compiler.specs.inside.Tasks.{IsLight, IsSecond, Site, beside_of, first, others, run, schedule, way_for, weight}
+use Rattle.form_compiler.proofs.Gives.{made-gives, under-made}
 use Rattle.form_compiler.proofs.Known.{known_from, node_at, same_length}
-use Rattle.form_compiler.proofs.Longs.{laid_long}
 use Rattle.form_compiler.proofs.Tasked.{scheduled}
-use Rattle.form_compiler.proofs.Unfolded.{all_lighter, all_unfolded, behind-others, body_lighter, body_unfolded, clauses_lighter, clauses_unfolded, operands_lighter, operands_unfolded, part_lighter, part_unfolded}
+use Rattle.form_compiler.proofs.Unfolded.{behind-others}
 use Rattle.form_compiler.proofs.Walk.{FirstOf, first_at, first_passed, passed, within}
 
 -- the position after points is so many lines later
@@ -53,9 +50,11 @@ beside-so (Stands u b) under beside C f m = f b m.1
 pub made-ready : (program : Program) (seat : Seat) (f : Forms) → AreMade program seat f → AreReady f
 made-ready program seat NoTrees m = tt
 made-ready program seat (Tree kind p u b) m =
-    let under : AreMade program (seat_under (role_of kind)) u = under-made program seat (role_of kind) u (λ s. AreMade program s b) m.1 in
-    (made-gives program (seat_under (role_of kind)) u under, made-ready program (seat_under (role_of kind)) u under,
-    beside-so (standing seat (role_of kind)) (λ s. AreMade program s u) (λ s. AreMade program s b) (AreReady b) (λ s m'. made-ready program s b m') m.1)
+    let under : AreMade program (seat_under (role_of kind)) u = under-made program seat (role_of kind) u (λ s. AreMade program s b) m.1 in (
+      made-gives program (seat_under (role_of kind)) u under,
+      made-ready program (seat_under (role_of kind)) u under,
+      beside-so (standing seat (role_of kind)) (λ s. AreMade program s u) (λ s. AreMade program s b) (AreReady b) (λ s m'. made-ready program s b m') m.1,
+    )
 
 -- the extent at a node
 pub first_here : (nodes : List FormNode) (extents : List Extent) (at : ℕ) (d : Extent) → extents ≡ extents_of nodes → at < length nodes
@@ -132,7 +131,7 @@ heavier (task.Write m) ts = omega arith
 pub form_stepped : (names : List FunctionName) (nodes : List FormNode) (at : ℕ) (d n : FormNode) (task : Task) (ts ts' : List Task) (old lines : List Placed)
     → at < length nodes → n ≡ get_or nodes at d → AreReady (forms_of (drop at nodes))
     → lines ++ run names (length lines) ts' (beside_of (front n.parts (forms_of (drop (at + 1) nodes))) (behind n.parts (forms_of (drop (at + 1) nodes))))
-      ≡ old ++ run names (length old) (task ∷ ts) (Tree n.kind n.place (front n.parts (forms_of (drop (at + 1) nodes))) (behind n.parts (forms_of (drop (at + 1) nodes))))
+    ≡ old ++ run names (length old) (task ∷ ts) (Tree n.kind n.place (front n.parts (forms_of (drop (at + 1) nodes))) (behind n.parts (forms_of (drop (at + 1) nodes))))
     → weight ts' ≤ weight ts + 2 ^ 79 → Stepped names nodes task ts at old ts' lines (at + 1)
 form_stepped names nodes at d n task ts ts' old lines h is m e light =
     let f : Forms = forms_of (drop (at + 1) nodes) in
@@ -154,7 +153,7 @@ pub light_taken : (names : List FunctionName) (nodes : List FormNode) (at : ℕ)
     → IsLight n.kind → s.way ≡ way_for n.kind way → s.at ≡ length lines → s.place ≡ n.place → s.forms ≡ e.forms → s.end ≡ length lines + e.lines
     → IsSecond n.kind s (forms_of (drop (at + 1) nodes)) → length lines + size (first (forms_of (drop at nodes))) ≤ most_lines
     → ((f : Forms) → run names (length lines) (t ∷ ts) (Tree n.kind n.place (front n.parts (forms_of (drop (at + 1) nodes))) f)
-      ≡ laid names s.way s.holding (length lines) (table n.kind n.place (points_of (front n.parts (forms_of (drop (at + 1) nodes))))) (run names (past (length lines) (table n.kind n.place (points_of (front n.parts (forms_of (drop (at + 1) nodes)))))) ts f))
+    ≡ laid names s.way s.holding (length lines) (table n.kind n.place (points_of (front n.parts (forms_of (drop (at + 1) nodes))))) (run names (past (length lines) (table n.kind n.place (points_of (front n.parts (forms_of (drop (at + 1) nodes)))))) ts f))
     → ts' ≡ schedule names n.kind s ts → weight ts' ≤ weight ts + 2 ^ 79 → Stepped names nodes t ts at lines ts' lines (at + 1)
 light_taken names nodes at d n e t way s ts ts' lines h is is' m l w at' pl forms end q room same tasks light =
     let f : Forms = forms_of (drop (at + 1) nodes) in
@@ -176,7 +175,7 @@ light_taken names nodes at d n e t way s ts ts' lines h is is' m l w at' pl form
     let begun : run names (length lines) ts' (beside_of u b) ≡ laid names s.way s.holding s.at (table n.kind s.place us) (run names (past s.at (table n.kind s.place us)) ts b) =
     ap (λ a. run names a ts' (beside_of u b)) (sym at') ∙ ap (λ x. run names s.at x (beside_of u b)) tasks ∙ written in
     let moved : laid names s.way s.holding s.at (table n.kind s.place us) (run names (past s.at (table n.kind s.place us)) ts b)
-      ≡ laid names s.way s.holding (length lines) (table n.kind n.place us) (run names (past (length lines) (table n.kind n.place us)) ts b) =
+    ≡ laid names s.way s.holding (length lines) (table n.kind n.place us) (run names (past (length lines) (table n.kind n.place us)) ts b) =
     ap (λ a. laid names s.way s.holding a (table n.kind s.place us) (run names (past a (table n.kind s.place us)) ts b)) at'
     ∙ ap (λ q. laid names s.way s.holding (length lines) (table n.kind q us) (run names (past (length lines) (table n.kind q us)) ts b)) pl in
     form_stepped names nodes at d n t ts ts' lines lines h is m (ap (λ r. lines ++ r) (begun ∙ moved ∙ sym (same b))) light

@@ -1,5 +1,5 @@
 -- What the tasks of a form take is what stands under it, and their lines are those of its points.
-use Rattle.std.proofs.Common.{◌≡◌, ℕ, zero, suc, List, [], ◌∷◌, refl, ap, sym, ◌∙◌}
+use Rattle.std.proofs.Common.{◌≡◌, ℕ, zero, suc, List, [], ◌∷◌, refl, ap, sym}
 use Rattle.lisp_base.specs.Forest.{NoTrees, Tree, behind, count_of}
 use Rattle.lisp_base.specs.declared.id.FunctionName.{FunctionName}
 use Rattle.lisp_program.specs.Forms.{Forms}
@@ -15,7 +15,7 @@ use Rattle.lisp_code.specs.Lines.{Placed, Way, laid, no_way, past}
 use Rattle.form_compiler.specs.inside.Gives.{AllButOne, AreGiving, GivesAs, IsClause, Ones}
 use Rattle.form_compiler.specs.inside.Marks.{act_mark, placed_of}
 use Rattle.form_compiler.specs.inside.Tasks.{all, all_lines, beside_of, body, body_lines, clause_lines, nil_at, way_for, wanted, wanted_lines}
-use Rattle.form_compiler.proofs.Joined.{laid-joined, past-joined}
+use Rattle.form_compiler.proofs.Joined.{laid-joined}
 
 pub behind-beside : (u b : Forms) → behind (count_of u) (beside_of u b) ≡ b
 behind-beside NoTrees b = refl

@@ -1,6 +1,6 @@
 -- The tasks of a form of each kind write its lines, and then what the other tasks write.
-use Rattle.std.proofs.Common.{◌≡◌, ℕ, zero, suc, List, [], ◌∷◌, length, Bool, true, false, refl, ap, sym, ◌∙◌}
-use Rattle.lisp_base.specs.Forest.{NoTrees, Tree, behind, count_of}
+use Rattle.std.proofs.Common.{◌≡◌, ℕ, suc, List, [], ◌∷◌, length, Bool, true, false, refl, ap, sym, ◌∙◌}
+use Rattle.lisp_base.specs.Forest.{NoTrees, Tree, count_of}
 use Rattle.lisp_base.specs.declared.condition.Class.{Class}
 use Rattle.lisp_base.specs.declared.id.FunctionName.{FunctionName}
 use Rattle.lisp_base.specs.declared.value.Node.TheVariants.{Symbol}
@@ -8,22 +8,22 @@ use Rattle.lisp_program.specs.Forms.{Forms}
 use Rattle.lisp_program.specs.WellMade.{Clauses, role_of}
 use Rattle.lisp_program.specs.declared.form.CoreKind.{CoreKind}
 use Rattle.lisp_program.specs.declared.form.CoreKind.TheVariants as k
-use Rattle.form_points.specs.Operands.{first_of, operands, operands_of, others_of, printed_of}
-use Rattle.form_points.specs.Points.{Points, Done, Do, Ask, Enter, Test, Handle, When, all_of, body_of, joined}
+use Rattle.form_points.specs.Operands.{first_of, operands_of, others_of, printed_of}
+use Rattle.form_points.specs.Points.{Points, Done, Do, Enter, Handle, all_of, body_of, joined}
 use Rattle.form_points.specs.Table.{points_of, table}
 use Rattle.form_points.specs.declared.act.Act.TheVariants as act
 use Rattle.form_points.specs.declared.act.Opening.TheVariants as opening
 use Rattle.form_points.specs.declared.act.Question.TheVariants as question
-use Rattle.lisp_code.specs.Held.{Holding, bound, one_more, rise, total, without}
-use Rattle.lisp_code.specs.Lines.{EntersHandler, JumpsTo, Placed, Way, clauses_at, laid, no_way, past, placed, seat_of}
+use Rattle.lisp_code.specs.Held.{Holding, bound, one_more, rise, total}
+use Rattle.lisp_code.specs.Lines.{EntersHandler, Way, clauses_at, laid, no_way, past, placed, seat_of}
 use Rattle.lisp_code.specs.declared.instr.Instr.TheVariants as instr
 use Rattle.form_compiler.specs.declared.task.Task.{Task}
 use Rattle.form_compiler.specs.declared.task.Task.TheVariants as task
-use Rattle.form_compiler.specs.inside.Gives.{AreClauses, AreGiving, GivesOne, Ones, seat_under, with_more}
-use Rattle.form_compiler.specs.inside.Marks.{act_mark, mark, placed_of, test_mark}
-use Rattle.form_compiler.specs.inside.Tasks.{IsLight, IsSecond, way_for, Site, all, beside_of, body, deadline_tasks, framed, handling, less, nil_at, onward, run, schedule}
-use Rattle.form_compiler.proofs.Choices.{after_one, entered_after, if_chosen, unwind_protected, while_looped}
-use Rattle.form_compiler.proofs.Gives.{bound-but_one, guarded, ones, ones-but_one, rise-all, rise-body, rise-bound, values-but_one}
+use Rattle.form_compiler.specs.inside.Gives.{AreGiving, Ones, seat_under, with_more}
+use Rattle.form_compiler.specs.inside.Marks.{mark, placed_of, test_mark}
+use Rattle.form_compiler.specs.inside.Tasks.{IsLight, IsSecond, way_for, Site, beside_of, deadline_tasks, handling, nil_at, onward, run, schedule}
+use Rattle.form_compiler.proofs.Choices.{entered_after, if_chosen, unwind_protected, while_looped}
+use Rattle.form_compiler.proofs.Gives.{bound-but_one, ones, ones-but_one, rise-all, rise-body, rise-bound, values-but_one}
 use Rattle.form_compiler.proofs.Joined.{laid-joined, past-joined}
 use Rattle.form_compiler.proofs.Scheduled.{acted, alone, asked_for, bound_in, call_lined, entering, serving, tail}
 use Rattle.form_compiler.proofs.Taken.{all-beside, all_lines-beside, behind-beside, body-beside, body_lines-beside, clause_lines-beside}
@@ -37,8 +37,8 @@ module _ (names : List FunctionName) where
   -- a `handler-case`: the line that opens its frame, and then its tasks
   handled : (pl at end : ℕ) (h : Holding) (t : Points) (u b : Forms) (ts : List Task) → AreGiving Clauses u → end ≡ past at (Handle pl t (all_of (points_of u)) Done)
       → placed (EntersHandler (clauses_at (suc (past (suc at) t)) (all_of (points_of u)))) pl h (total h)
-        ∷ laid names no_way h (suc at) t (placed_of [] (mark (instr.LeaveHandler end) pl (one_more h) (total h))
-        ∷ run names (suc (past (suc at) t)) (task.Clauses (count_of u) end pl h ∷ ts) (beside_of u b))
+      ∷ laid names no_way h (suc at) t (placed_of [] (mark (instr.LeaveHandler end) pl (one_more h) (total h))
+      ∷ run names (suc (past (suc at) t)) (task.Clauses (count_of u) end pl h ∷ ts) (beside_of u b))
       ≡ laid names no_way h at (Handle pl t (all_of (points_of u)) Done) (run names (past at (Handle pl t (all_of (points_of u)) Done)) ts b)
   handled pl at end h t u b ts c e =
       let way : Way = record { to = end; place = pl } in
@@ -50,7 +50,7 @@ module _ (names : List FunctionName) where
   pub handler_scheduled : (s : Site) (kind : CoreKind) (q : ℕ) (u more b : Forms) (ts : List Task) → AreGiving Clauses more
       → s.forms ≡ suc (count_of more) → s.end ≡ past s.at (table k.HandlerCase s.place (points_of (Tree kind q u more)))
       → placed (EntersHandler (clauses_at (suc (past (suc s.at) (table kind q (points_of u)))) (all_of (points_of more)))) s.place s.holding (total s.holding)
-        ∷ run names (suc s.at) (handling names s ts) (beside_of (Tree kind q u more) b)
+      ∷ run names (suc s.at) (handling s ts) (beside_of (Tree kind q u more) b)
       ≡ laid names no_way s.holding s.at (table k.HandlerCase s.place (points_of (Tree kind q u more)))
       (run names (past s.at (table k.HandlerCase s.place (points_of (Tree kind q u more)))) ts b)
   handler_scheduled s kind q u more b ts c n e = rw n (handled s.place s.at s.end s.holding (table kind q (points_of u)) more b ts c e)
@@ -58,7 +58,7 @@ module _ (names : List FunctionName) where
   -- a `with-deadline`
   deadlined : (seconds replaces : Bool) (s : Site) (u b : Forms) (ts : List Task) → Ones u → s.forms ≡ count_of u
       → s.end ≡ past s.at (table (k.WithDeadline seconds replaces) s.place (points_of u))
-      → run names s.at (deadline_tasks names seconds replaces s ts) (beside_of u b)
+      → run names s.at (deadline_tasks seconds replaces s ts) (beside_of u b)
       ≡ laid names no_way s.holding s.at (table (k.WithDeadline seconds replaces) s.place (points_of u)) (run names (past s.at (table (k.WithDeadline seconds replaces) s.place (points_of u))) ts b)
   deadlined false false s u b ts o c e = rw c (entering names (opening.Deadline false false) s u b s.holding s.at ts (ones-but_one u o) e)
   deadlined true false s u b ts o c e = rw c (entered_after names (opening.Deadline true false) s s.holding s.at u b ts o e)
@@ -75,7 +75,7 @@ module _ (names : List FunctionName) where
 
   -- a clause without a variable
   clause_plain : (class : Class) (s : Site) (u b : Forms) (ts : List Task) → Ones u → s.forms ≡ count_of u
-      → run names s.at (task.Body s.forms s.place s.holding ∷ (onward names s ∷ ts)) (beside_of u b)
+      → run names s.at (task.Body s.forms s.place s.holding ∷ (onward s ∷ ts)) (beside_of u b)
       ≡ laid names s.way s.holding s.at (table (k.Clause class) s.place (points_of u)) (run names (past s.at (table (k.Clause class) s.place (points_of u))) ts b)
   clause_plain class s u b ts o c =
       rw (c, body-beside s.place u b, behind-beside u b) (body_lines-beside names s.place u s.holding s.at b _ (ones-but_one u o))
@@ -85,7 +85,7 @@ module _ (names : List FunctionName) where
       → run names s.at (schedule names (k.ClauseWith class x) s ts) (beside_of u b)
       ≡ laid names s.way s.holding s.at (table (k.ClauseWith class x) s.place (points_of u)) (run names (past s.at (table (k.ClauseWith class x) s.place (points_of u))) ts b)
   clause_given class x s u b ts o c =
-      bound_in names x 0 s u b (one_more s.holding) s.at (onward names s ∷ ts) (ones-but_one u o) (rise-body s.place u o (bound (one_more s.holding))) (sym c)
+      bound_in names x 0 s u b (one_more s.holding) s.at (onward s ∷ ts) (ones-but_one u o) (rise-body s.place u o (bound (one_more s.holding))) (sym c)
 
   -- the tasks of a form, and then others, write the lines of the form and what the others write
   pub scheduled : (kind : CoreKind) (way : Way) (s : Site) (u b : Forms) (ts : List Task) → IsLight kind → AreGiving (seat_under (role_of kind)) u → s.way ≡ way_for kind way

@@ -173,7 +173,7 @@ module _ (p : Parts) (names : List FunctionName) (ls : List Placed) (c : IsLaidO
       (record {
         entry = lies p names ls c at 0 _ e (begins names no_way p.specials (begun s.params) at s.points (last ∷ rest) g.0.0 g.0.1.0);
         arguments = arguments-held s.params (height_of names s) (g.0.1.1 names no_way (begun s.params) 0 (last ∷ []));
-        height = at-most (height_of names s) (most_held (laid names no_way (begun s.params) at s.points (last ∷ rest))) most_operands less most
+        height = at-most (height_of names s) (most_held (laid names no_way (begun s.params) at s.points (last ∷ rest))) most_operands less most;
       })
       (functions-are (suc end) ss e2 g.1)
 
@@ -254,5 +254,5 @@ code-valid pr p code made rows u =
       instructions = subst (λ hs. AreFine p 0 hs p.instrs) (sym code.heights)
           (are-fine p 0 p.instrs (program_lines pr) code.lines (program-sound pr p c fit main.1.0 good) rows);
       functions = subst (λ fs. All (IsFunction p) fs) (sym code.functions)
-          (functions-are p names (program_lines pr) c entry (stretches_of pr) (functions-begin pr) good)
+          (functions-are p names (program_lines pr) c entry (stretches_of pr) (functions-begin pr) good);
     }

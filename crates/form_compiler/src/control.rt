@@ -16,7 +16,12 @@ use lisp_code::instr::Instr;
 pub(crate) fn push_choosing(site: &Site, tasks: &mut Tasks) -> Result<(), Memory>
     ensures { OnOk result (tasks.new ≡ choosing site.now tasks.old) }
 {
-    let Site { place, hold, forms, .. } = *site;
+    let Site {
+        place,
+        hold,
+        forms,
+        ..
+    } = *site;
     let full = hold.one_more()?;
     tasks.put(&[
         Task::Part(forms, place, hold),
@@ -32,7 +37,12 @@ pub(crate) fn push_choosing(site: &Site, tasks: &mut Tasks) -> Result<(), Memory
 pub(crate) fn push_looping(site: &Site, tasks: &mut Tasks) -> Result<(), Memory>
     ensures { OnOk result (tasks.new ≡ looping site.now tasks.old) }
 {
-    let Site { place, hold, forms, .. } = *site;
+    let Site {
+        place,
+        hold,
+        forms,
+        ..
+    } = *site;
     let full = hold.one_more()?;
     tasks.put(&[
         Task::Part(forms, place, hold),
@@ -47,7 +57,12 @@ pub(crate) fn push_looping(site: &Site, tasks: &mut Tasks) -> Result<(), Memory>
 pub(crate) fn push_protecting(site: &Site, tasks: &mut Tasks) -> Result<(), Memory>
     ensures { OnOk result (tasks.new ≡ protecting site.now tasks.old) }
 {
-    let Site { place, hold, forms, .. } = *site;
+    let Site {
+        place,
+        hold,
+        forms,
+        ..
+    } = *site;
     let full = hold.one_more()?;
     tasks.put(&[
         plain(Instr::EnterProtect(site.second), site, hold, hold)?,
@@ -62,7 +77,12 @@ pub(crate) fn push_protecting(site: &Site, tasks: &mut Tasks) -> Result<(), Memo
 pub(crate) fn push_handling(site: &Site, tasks: &mut Tasks) -> Result<(), Memory>
     ensures { OnOk result (tasks.new ≡ handling site.now tasks.old) }
 {
-    let Site { place, hold, forms, .. } = *site;
+    let Site {
+        place,
+        hold,
+        forms,
+        ..
+    } = *site;
     let full = hold.one_more()?;
     tasks.put(&[
         Task::Part(forms, place, hold),
@@ -80,7 +100,12 @@ pub(crate) fn push_deadline(
 ) -> Result<(), Memory>
     ensures { OnOk result (tasks.new ≡ deadline_tasks seconds replaces site.now tasks.old) }
 {
-    let Site { place, hold, forms, .. } = *site;
+    let Site {
+        place,
+        hold,
+        forms,
+        ..
+    } = *site;
     let opening = Opening::Deadline { seconds, replaces };
     match (seconds, replaces) {
         (true, true) => {

@@ -1,23 +1,23 @@
 //! Compiles programs: their points, laid out as code.
 #![tactic(auto)]
 
+mod control;
 pub mod extent;
+mod held;
+pub mod hold;
 pub mod laws;
 mod lengths;
-pub mod hold;
-mod held;
 mod light;
 pub mod mark;
 mod names;
 mod operands;
-pub mod row;
-mod sizes;
-pub mod task;
-mod unbuilt;
-pub mod tasks;
-mod unfold;
 mod parts;
-mod control;
+pub mod row;
 mod schedule;
 mod service;
 pub mod site;
+mod sizes;
+pub mod task;
+pub mod tasks;
+mod unbuilt;
+mod unfold;

@@ -59,7 +59,10 @@ pub(crate) fn push_acting(
     ensures { OnOk result (tasks.new ≡ acting names.now operands last site.now tasks.old) }
 {
     let last = act(names, last, site, site.hold.with_more(operands)?)?;
-    tasks.put(&[Task::Operands(operands, site.forms, site.place, site.hold), last])
+    tasks.put(&[
+        Task::Operands(operands, site.forms, site.place, site.hold),
+        last,
+    ])
 }
 
 /// The tasks of so many operands, and a question.
@@ -72,7 +75,10 @@ pub(crate) fn push_asking(
     ensures { OnOk result (tasks.new ≡ asking operands last site.now tasks.old) }
 {
     let last = ask(last, site, site.hold.with_more(operands)?)?;
-    tasks.put(&[Task::Operands(operands, site.forms, site.place, site.hold), last])
+    tasks.put(&[
+        Task::Operands(operands, site.forms, site.place, site.hold),
+        last,
+    ])
 }
 
 /// The task to open the frame of a form.
@@ -121,7 +127,12 @@ pub(crate) fn push_binding(
     tasks.put(&[
         act(names, Act::BindLocal(variable, above), site, hold)?,
         Task::Body(site.forms, site.place, bound),
-        act(names, Act::ForgetLocal, site, bound.without(above)?.one_more()?)?,
+        act(
+            names,
+            Act::ForgetLocal,
+            site,
+            bound.without(above).one_more()?,
+        )?,
     ])
 }
 
@@ -129,6 +140,11 @@ pub(crate) fn push_binding(
 pub(crate) fn onward(site: &Site) -> Result<Task, Memory>
     ensures { IfOk result (λ t. t ≡ onward_of site.now) }
 {
-    let jump = plain_light(Instr::Jump(site.to), site.way_place, site.hold.one_more()?, site.hold)?;
+    let jump = plain_light(
+        Instr::Jump(site.to),
+        site.way_place,
+        site.hold.one_more()?,
+        site.hold,
+    )?;
     Ok(Task::Write(jump))
 }

@@ -7,7 +7,9 @@ use crate::control::{push_choosing, push_deadline, push_handling, push_looping, 
 use crate::light::test_light;
 use crate::names::Names;
 use crate::operands::{operands_of, printed_of, served_of};
-use crate::parts::{act, ask, onward, push_acting, push_alone, push_asking, push_binding, push_framed};
+use crate::parts::{
+    act, ask, onward, push_acting, push_alone, push_asking, push_binding, push_framed,
+};
 use crate::service::push_service;
 use crate::site::Site;
 use crate::task::Task;
@@ -30,7 +32,10 @@ fn push_special(
     ensures { OnOk result (tasks.new ≡ schedule_of names.now (CoreKind.Special variable) site.now tasks.old) }
 {
     let _ = names;
-    tasks.put(&[ask(Question::Read(variable), site, site.hold)?, Task::Skip(site.forms)])
+    tasks.put(&[
+        ask(Question::Read(variable), site, site.hold)?,
+        Task::Skip(site.forms),
+    ])
 }
 
 /// The tasks of a `defvar`.
@@ -89,11 +94,7 @@ fn push_catch(names: &Names, site: &Site, tasks: &mut Tasks) -> Result<(), Memor
 }
 
 /// The tasks of a body in a frame.
-fn push_block(
-    opening: Opening,
-    site: &Site,
-    tasks: &mut Tasks,
-) -> Result<(), Memory>
+fn push_block(opening: Opening, site: &Site, tasks: &mut Tasks) -> Result<(), Memory>
     ensures { OnOk result (tasks.new ≡ framed opening site.now.forms site.now site.now.holding tasks.old) }
 {
     push_framed(opening, site.forms, site, site.hold, tasks)
@@ -146,9 +147,7 @@ pub(crate) fn push_schedule(
         CoreKind::Defparameter(variable) => {
             push_asking(1, Question::Define(variable), site, tasks)
         },
-        CoreKind::Defun(name) => {
-            push_alone(names, Act::Push(Value::symbol(name)), site, tasks)
-        },
+        CoreKind::Defun(name) => { push_alone(names, Act::Push(Value::symbol(name)), site, tasks) },
         CoreKind::CompareAndSwap(variable) => {
             push_asking(2, Question::CompareAndSwap(variable), site, tasks)
         },
@@ -164,10 +163,21 @@ pub(crate) fn push_schedule(
         },
         CoreKind::Call(function) => push_call(names, function, site, tasks),
         CoreKind::Apply(function) => {
-            push_acting(names, operands_of(&function), Act::Apply(function), site, tasks)
+            push_acting(
+                names,
+                operands_of(&function),
+                Act::Apply(function),
+                site,
+                tasks,
+            )
         },
         CoreKind::Print(printing) => {
-            push_asking(printed_of(&printing), Question::Print(printing), site, tasks)
+            push_asking(
+                printed_of(&printing),
+                Question::Print(printing),
+                site,
+                tasks,
+            )
         },
         CoreKind::Serve(service) => push_served(names, &service, site, tasks),
         CoreKind::Block(entry) => push_block(Opening::Block(entry), site, tasks),
@@ -192,8 +202,6 @@ pub(crate) fn push_schedule(
             push_deadline(seconds, replaces, site, tasks)
         },
         CoreKind::AbortThread => push_alone(names, Act::AbortThread, site, tasks),
-        CoreKind::ReturnFromThread => {
-            push_acting(names, 1, Act::ReturnFromThread, site, tasks)
-        },
+        CoreKind::ReturnFromThread => { push_acting(names, 1, Act::ReturnFromThread, site, tasks) },
     }
 }

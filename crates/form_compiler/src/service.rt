@@ -163,8 +163,6 @@ pub(crate) fn push_service(
         | Service::ConditionNotify { .. }
         | Service::ConditionBroadcast
         | Service::MakeTimer { .. }
-        | Service::UnscheduleTimer => {
-            tasks.push(asked(*service, Step::Main, place, hold)?)
-        },
+        | Service::UnscheduleTimer => { tasks.push(asked(*service, Step::Main, place, hold)?) },
     }
 }

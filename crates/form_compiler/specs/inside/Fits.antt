@@ -30,16 +30,16 @@ abbrev mutual
   Fits specials h (Ask q p after) = (question_takes q ≤ h.height) × (IsKnown specials q × Fits specials (after_question q h) after)
   Fits specials h (Test q p more after) =
       (question_takes q ≤ h.height) × (IsKnown specials q
-        × ((Fits specials h more × ((rise h more).height ≡ (after_question q h).height)) × Fits specials (after_question q h) after))
+      × ((Fits specials h more × ((rise h more).height ≡ (after_question q h).height)) × Fits specials (after_question q h) after))
   Fits specials h (Choose p x y after) =
       (1 ≤ h.height) × ((Fits specials (without 1 h) x × Lifts (without 1 h) x)
-        × ((Fits specials (without 1 h) y × Lifts (without 1 h) y) × Fits specials (one_more (without 1 h)) after))
+      × ((Fits specials (without 1 h) y × Lifts (without 1 h) y) × Fits specials (one_more (without 1 h)) after))
   Fits specials h (Loop p test body after) =
       (Fits specials h test × Lifts h test) × ((Fits specials h body × Lifts h body) × Fits specials (one_more h) after)
   Fits specials h (Turn p test body after) = ⊥
   Fits specials h (Enter o p body after) =
       (opening_takes o ≤ h.height) × (IsOpened specials o
-        × ((Fits specials (inside o h) body × ((rise (inside o h) body).height ≡ suc (outside o h).height)) × Fits specials (one_more (outside o h)) after))
+      × ((Fits specials (inside o h) body × ((rise (inside o h) body).height ≡ suc (outside o h).height)) × Fits specials (one_more (outside o h)) after))
   Fits specials h (Protect p body cleanup after) =
       (Fits specials h body × Lifts h body) × ((Fits specials h cleanup × Lifts h cleanup) × Fits specials (one_more h) after)
   Fits specials h (Handle p body clauses after) =

@@ -1,5 +1,5 @@
 -- Lines as the compiler writes them.
-use Rattle.std.specs.Prelude.{◌<◌, ℕ, List, [], length, Option, Some, None}
+use Rattle.std.specs.Prelude.{◌<◌, ℕ, List, Option, Some, None}
 use Rattle.lisp_base.specs.declared.condition.Class.TheVariants.{UndefinedFunction}
 use Rattle.lisp_base.specs.declared.id.FunctionName.{FunctionName}
 use Rattle.form_points.specs.declared.act.Act.{Act}

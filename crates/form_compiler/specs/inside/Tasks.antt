@@ -1,18 +1,16 @@
 -- What is still to be written: tasks, each of which takes forms from those that are left.
-use Rattle.std.specs.Prelude.{◌≡◌, ◌≤◌, ◌<◌, ◌*◌, ◌^◌, ℕ, zero, suc, ◌+◌, ◌-◌, min, Bool, true, false, List, [], ◌∷◌, ◌++◌, All, length, drop, map}
-use Rattle.lisp_base.specs.Forest.{NoTrees, Tree, count_of, behind}
+use Rattle.std.specs.Prelude.{◌≡◌, ◌*◌, ℕ, zero, suc, ◌+◌, Bool, true, false, List, [], ◌∷◌}
+use Rattle.lisp_base.specs.Forest.{NoTrees, Tree, behind}
 use Rattle.lisp_base.specs.declared.id.FunctionName.{FunctionName}
 use Rattle.lisp_base.specs.declared.value.Node.TheVariants.{Symbol}
 use Rattle.lisp_base.specs.Value.{nil}
-use Rattle.lisp_program.specs.Forms.{Forms, forms_of}
-use Rattle.lisp_program.specs.WellMade.{Seat, role_of}
+use Rattle.lisp_program.specs.Forms.{Forms}
 use Rattle.lisp_program.specs.declared.form.CoreKind.{CoreKind}
 use Rattle.lisp_program.specs.declared.form.CoreKind.TheVariants as k
-use Rattle.lisp_program.specs.declared.form.FormNode.{FormNode}
 use Rattle.lisp_program.specs.declared.function.Service.{Service}
 use Rattle.lisp_program.specs.declared.function.Service.TheVariants as service
 use Rattle.form_points.specs.Operands.{operands_of, printed_of, served_of}
-use Rattle.form_points.specs.Points.{Points, Done, Do, body_of, joined}
+use Rattle.form_points.specs.Points.{Points, Done, Do, joined}
 use Rattle.form_points.specs.Table.{points_of, table}
 use Rattle.form_points.specs.declared.act.Act.{Act}
 use Rattle.form_points.specs.declared.act.Act.TheVariants as act
@@ -23,15 +21,13 @@ use Rattle.form_points.specs.declared.act.Question.TheVariants as question
 use Rattle.form_points.specs.declared.act.Step.{Step}
 use Rattle.form_points.specs.declared.act.Step.TheVariants as step
 use Rattle.lisp_code.specs.Held.{Holding, bound, held_in, inside, one_more, outside, total, without}
-use Rattle.lisp_code.specs.Lines.{Placed, Way, laid, no_way, past, size, JumpsTo, placed}
+use Rattle.lisp_code.specs.Lines.{Placed, Way, laid, no_way, past}
 use Rattle.lisp_code.specs.declared.instr.Clause.{Clause}
-use Rattle.lisp_code.specs.declared.instr.Instr.{Instr}
 use Rattle.lisp_code.specs.declared.instr.Instr.TheVariants as i
-use Rattle.form_compiler.specs.declared.mark.Mark.{Mark}
 use Rattle.form_compiler.specs.declared.task.Task.{Task}
 use Rattle.form_compiler.specs.declared.task.Task.TheVariants.{Form, Clause as ClauseTask, Part, Body, All as AllTask, Operands, Clauses, Skip, Write}
-use Rattle.form_compiler.specs.inside.Gives.{AreGiving, seat_under, with_more}
-use Rattle.form_compiler.specs.inside.Marks.{HasRow, act_mark, ask_mark, mark, placed_of, test_mark}
+use Rattle.form_compiler.specs.inside.Gives.{with_more}
+use Rattle.form_compiler.specs.inside.Marks.{act_mark, ask_mark, mark, placed_of, test_mark}
 
 -- all but the first of these forms
 abbrev pub others : Forms → Forms
@@ -205,7 +201,7 @@ service_tasks (service.GrabMutex true false) p end h ts =
     tried (service.GrabMutex true false) step.Try end p h ∷ (asked (service.GrabMutex true false) step.Main p h ∷ ts)
 service_tasks (service.ConditionWait true) p end h ts =
     tried (service.ConditionWait true) step.Clock (less (less end)) p h
-      ∷ (asked (service.ConditionWait true) step.Begin p h ∷ woken_tasks (service.ConditionWait true) p end h ts)
+    ∷ (asked (service.ConditionWait true) step.Begin p h ∷ woken_tasks (service.ConditionWait true) p end h ts)
 service_tasks (service.ConditionWait false) p end h ts =
     asked (service.ConditionWait false) step.Begin p h ∷ woken_tasks (service.ConditionWait false) p end h ts
 service_tasks service.Sleep p end h ts = timed_tasks service.Sleep p h ts
@@ -240,40 +236,40 @@ onward s = Write (mark (i.Jump s.way.to) s.way.place (one_more s.holding) (total
 abbrev pub choosing : Site → List Task → List Task
 choosing s ts =
     Part s.forms s.place s.holding
-      ∷ (Write (mark (i.Branch s.second) s.place (one_more s.holding) (total s.holding))
-      ∷ (Part (less s.forms) s.place s.holding
-      ∷ (Write (mark (i.Jump s.end) s.place (one_more s.holding) (total s.holding))
-      ∷ (Part (less (less s.forms)) s.place s.holding ∷ (Skip (less (less (less s.forms))) ∷ ts)))))
+    ∷ (Write (mark (i.Branch s.second) s.place (one_more s.holding) (total s.holding))
+    ∷ (Part (less s.forms) s.place s.holding
+    ∷ (Write (mark (i.Jump s.end) s.place (one_more s.holding) (total s.holding))
+    ∷ (Part (less (less s.forms)) s.place s.holding ∷ (Skip (less (less (less s.forms))) ∷ ts)))))
 
 abbrev pub looping : Site → List Task → List Task
 looping s ts =
     Part s.forms s.place s.holding
-      ∷ (Write (mark (i.LoopTest s.end) s.place (one_more s.holding) (total (one_more s.holding)))
-      ∷ (Body (less s.forms) s.place s.holding
-      ∷ (Write (mark (i.Do act.Discard) s.place (one_more s.holding) (total s.holding))
-      ∷ (Write (mark (i.Jump s.at) s.place s.holding (total s.holding)) ∷ ts))))
+    ∷ (Write (mark (i.LoopTest s.end) s.place (one_more s.holding) (total (one_more s.holding)))
+    ∷ (Body (less s.forms) s.place s.holding
+    ∷ (Write (mark (i.Do act.Discard) s.place (one_more s.holding) (total s.holding))
+    ∷ (Write (mark (i.Jump s.at) s.place s.holding (total s.holding)) ∷ ts))))
 
 abbrev pub protecting : Site → List Task → List Task
 protecting s ts =
     Write (mark (i.EnterProtect s.second) s.place s.holding (total s.holding))
-      ∷ (Part s.forms s.place s.holding
-      ∷ (Write (mark i.LeaveProtect s.place (one_more s.holding) (total s.holding))
-      ∷ (Body (less s.forms) s.place s.holding
-      ∷ (Write (mark i.LeaveCleanup s.place (one_more s.holding) (total s.holding)) ∷ ts))))
+    ∷ (Part s.forms s.place s.holding
+    ∷ (Write (mark i.LeaveProtect s.place (one_more s.holding) (total s.holding))
+    ∷ (Body (less s.forms) s.place s.holding
+    ∷ (Write (mark i.LeaveCleanup s.place (one_more s.holding) (total s.holding)) ∷ ts))))
 
 -- a `handler-case` after the line that opens its frame
 abbrev pub handling : Site → List Task → List Task
 handling s ts =
     Part s.forms s.place s.holding
-      ∷ (Write (mark (i.LeaveHandler s.end) s.place (one_more s.holding) (total s.holding))
-      ∷ (Clauses (less s.forms) s.end s.place s.holding ∷ ts))
+    ∷ (Write (mark (i.LeaveHandler s.end) s.place (one_more s.holding) (total s.holding))
+    ∷ (Clauses (less s.forms) s.end s.place s.holding ∷ ts))
 
 -- the operands that are written, and then the others as a body in a frame
 abbrev pub deadline_tasks : (seconds replaces : Bool) → Site → List Task → List Task
 deadline_tasks true true s ts =
     Part s.forms s.place s.holding
-      ∷ (Part (less s.forms) s.place (one_more s.holding)
-      ∷ framed (opening.Deadline true true) (less (less s.forms)) s (full 2 s) ts)
+    ∷ (Part (less s.forms) s.place (one_more s.holding)
+    ∷ framed (opening.Deadline true true) (less (less s.forms)) s (full 2 s) ts)
 deadline_tasks false false s ts = framed (opening.Deadline false false) s.forms s s.holding ts
 deadline_tasks a b s ts = Part s.forms s.place s.holding ∷ framed (opening.Deadline a b) (less s.forms) s (full 1 s) ts
 
@@ -290,68 +286,11 @@ module _ (names : List FunctionName) where
   abbrev pub acting : ℕ → Act → Site → List Task → List Task
   acting n a s ts = Operands n s.forms s.place s.holding ∷ (act_task a s (full n s) ∷ ts)
 
-<<<<<<< HEAD
-=======
-  abbrev pub asking : ℕ → Question → Site → List Task → List Task
-  asking n q s ts = Operands n s.forms s.place s.holding ∷ (ask_task q s (full n s) ∷ ts)
-
-  -- so many forms as a body in a frame
-  abbrev pub framed : Opening → (n : ℕ) → Site → Holding → List Task → List Task
-  framed o n s h ts = enter o s h ∷ (Body n s.place (inside o h) ∷ (leave o s h ∷ ts))
-
->>>>>>> 65f3b536087f6bb488c19845ab735760fa0f8e76
   -- a body in which a variable is bound, where this is held before; it takes away the values of the other variables
   abbrev pub binding : (x above : ℕ) → Site → Holding → List Task → List Task
   binding x above s h ts =
       act_task (act.BindLocal x above) s h
-        ∷ (Body s.forms s.place (bound h) ∷ (act_task act.ForgetLocal s (one_more (without above (bound h))) ∷ ts))
-<<<<<<< HEAD
-=======
-
-  -- a clause goes on with a jump
-  abbrev pub onward : Site → Task
-  onward s = Write (mark (i.Jump s.way.to) s.way.place (one_more s.holding) (total s.holding))
-
-  abbrev pub choosing : Site → List Task → List Task
-  choosing s ts =
-      Part s.forms s.place s.holding
-        ∷ (Write (mark (i.Branch s.second) s.place (one_more s.holding) (total s.holding))
-        ∷ (Part (less s.forms) s.place s.holding
-        ∷ (Write (mark (i.Jump s.end) s.place (one_more s.holding) (total s.holding))
-        ∷ (Part (less (less s.forms)) s.place s.holding ∷ (Skip (less (less (less s.forms))) ∷ ts)))))
-
-  abbrev pub looping : Site → List Task → List Task
-  looping s ts =
-      Part s.forms s.place s.holding
-        ∷ (Write (mark (i.LoopTest s.end) s.place (one_more s.holding) (total (one_more s.holding)))
-        ∷ (Body (less s.forms) s.place s.holding
-        ∷ (Write (mark (i.Do act.Discard) s.place (one_more s.holding) (total s.holding))
-        ∷ (Write (mark (i.Jump s.at) s.place s.holding (total s.holding)) ∷ ts))))
-
-  abbrev pub protecting : Site → List Task → List Task
-  protecting s ts =
-      Write (mark (i.EnterProtect s.second) s.place s.holding (total s.holding))
-        ∷ (Part s.forms s.place s.holding
-        ∷ (Write (mark i.LeaveProtect s.place (one_more s.holding) (total s.holding))
-        ∷ (Body (less s.forms) s.place s.holding
-        ∷ (Write (mark i.LeaveCleanup s.place (one_more s.holding) (total s.holding)) ∷ ts))))
-
-  -- a `handler-case` after the line that opens its frame
-  abbrev pub handling : Site → List Task → List Task
-  handling s ts =
-      Part s.forms s.place s.holding
-        ∷ (Write (mark (i.LeaveHandler s.end) s.place (one_more s.holding) (total s.holding))
-        ∷ (Clauses (less s.forms) s.end s.place s.holding ∷ ts))
-
-  -- the operands that are written, and then the others as a body in a frame
-  abbrev pub deadline_tasks : (seconds replaces : Bool) → Site → List Task → List Task
-  deadline_tasks true true s ts =
-      Part s.forms s.place s.holding
-        ∷ (Part (less s.forms) s.place (one_more s.holding)
-        ∷ framed (opening.Deadline true true) (less (less s.forms)) s (full 2 s) ts)
-  deadline_tasks false false s ts = framed (opening.Deadline false false) s.forms s s.holding ts
-  deadline_tasks a b s ts = Part s.forms s.place s.holding ∷ framed (opening.Deadline a b) (less s.forms) s (full 1 s) ts
->>>>>>> 65f3b536087f6bb488c19845ab735760fa0f8e76
+      ∷ (Body s.forms s.place (bound h) ∷ (act_task act.ForgetLocal s (one_more (without above (bound h))) ∷ ts))
 
   -- the tasks of a form of this kind
   abbrev pub schedule : CoreKind → Site → List Task → List Task
