@@ -1,5 +1,5 @@
 -- A task is taken up.
-use Rattle.std.proofs.Common.{◌≡◌, ◌≤◌, ◌<◌, ◌^◌, ℕ, zero, suc, ◌+◌, min, List, ◌∷◌, ◌++◌, length, drop, get_or, refl, ap, sym, subst, ◌∙◌, arith, drop-cons}
+use Rattle.std.proofs.Common.{◌≡◌, ◌≤◌, ◌<◌, ◌^◌, ℕ, zero, suc, ◌+◌, min, List, [], ◌∷◌, ◌++◌, length, drop, get_or, refl, ap, sym, subst, ◌∙◌, arith, drop-cons, append-nil, append_assoc, length-append}
 use Rattle.std.proofs.lemmas.List.{drop-drop, length-drop}
 use Rattle.lisp_base.specs.Forest.{NoTrees, Tree, behind, count_of, front}
 use Rattle.lisp_base.specs.declared.id.FunctionName.{FunctionName}
@@ -9,18 +9,22 @@ use Rattle.lisp_program.specs.WellMade.{AreMade, Misplaced, Seat, Stand, Standin
 use Rattle.lisp_program.specs.declared.form.FormNode.{FormNode}
 use Rattle.form_points.specs.Points.{Points, Done, Do, Ask, Test, Choose, Loop, Turn, Enter, Protect, Handle, When}
 use Rattle.form_points.specs.Table.{points_of, table}
-use Rattle.lisp_code.specs.Lines.{Placed, Way, laid, past, size}
+use Rattle.lisp_code.specs.Held.{Holding}
+use Rattle.lisp_code.specs.Lines.{Placed, Way, laid, no_way, past, size}
 use Rattle.form_compiler.specs.declared.extent.Extent.{Extent}
+use Rattle.form_compiler.specs.declared.mark.Mark.{Mark}
 use Rattle.form_compiler.specs.declared.task.Task.{Task}
 use Rattle.form_compiler.specs.declared.task.Task.TheVariants as task
 use Rattle.form_compiler.specs.inside.Extents.{MOST, extent_of, extents_of, nodes_in, under_of}
 use Rattle.form_compiler.specs.inside.Gives.{seat_under}
-use Rattle.form_compiler.specs.inside.Steps.{AreReady, Stepped, most_lines}
-use Rattle.form_compiler.specs.inside.Tasks.{IsLight, IsSecond, Site, beside_of, first, others, run, schedule, way_for, weight}
+use Rattle.form_compiler.specs.inside.Steps.{AreReady, Going, Stepped, most_lines, to_come}
+use Rattle.form_compiler.specs.inside.Marks.{placed_of}
+use Rattle.form_compiler.specs.inside.Tasks.{IsLight, IsSecond, Site, all_tasks, beside_of, body_tasks, clause_tasks, first, first_way, operand_tasks, others, part_tasks, run, schedule, way_for, weight}
 use Rattle.form_compiler.proofs.Gives.{made-gives, under-made}
+use Rattle.form_compiler.proofs.Longs.{laid_long}
 use Rattle.form_compiler.proofs.Known.{known_from, node_at, same_length}
 use Rattle.form_compiler.proofs.Tasked.{scheduled}
-use Rattle.form_compiler.proofs.Unfolded.{behind-others}
+use Rattle.form_compiler.proofs.Unfolded.{all_lighter, all_unfolded, behind-others, body_lighter, body_unfolded, clauses_lighter, clauses_unfolded, operands_lighter, operands_unfolded, part_lighter, part_unfolded}
 use Rattle.form_compiler.proofs.Walk.{FirstOf, first_at, first_passed, passed, within}
 
 -- the position after points is so many lines later
@@ -179,3 +183,84 @@ light_taken names nodes at d n e t way s ts ts' lines h is is' m l w at' pl form
     ap (λ a. laid names s.way s.holding a (table n.kind s.place us) (run names (past a (table n.kind s.place us)) ts b)) at'
     ∙ ap (λ q. laid names s.way s.holding (length lines) (table n.kind q us) (run names (past (length lines) (table n.kind q us)) ts b)) pl in
     form_stepped names nodes at d n t ts ts' lines lines h is m (ap (λ r. lines ++ r) (begun ∙ moved ∙ sym (same b))) light
+
+-- the other tasks, each by those that come in its place
+module _ (names : List FunctionName) (nodes : List FormNode) (ts ts' : List Task) (at : ℕ) (lines : List Placed) where
+  pub part_taken : (there pl : ℕ) (h : Holding) → ts' ≡ part_tasks names there pl h ts → at ≤ length nodes → Stepped names nodes (task.Part there pl h) ts at lines ts' lines at
+  part_taken there pl h e inside =
+      retasked names nodes (task.Part there pl h) ts ts' at lines inside
+      (rw e (part_unfolded names (length lines) there pl h ts (forms_of (drop at nodes)))) (rw e (part_lighter names there pl h ts))
+
+  pub body_taken : (n pl : ℕ) (h : Holding) → ts' ≡ body_tasks names n pl h ts → at ≤ length nodes → Stepped names nodes (task.Body n pl h) ts at lines ts' lines at
+  body_taken n pl h e inside =
+      retasked names nodes (task.Body n pl h) ts ts' at lines inside
+      (rw e (body_unfolded names (length lines) n pl h ts (forms_of (drop at nodes)))) (rw e (body_lighter names n pl h ts))
+
+  pub all_taken : (n : ℕ) (h : Holding) → ts' ≡ all_tasks n h ts → at ≤ length nodes → Stepped names nodes (task.All n h) ts at lines ts' lines at
+  all_taken n h e inside =
+      retasked names nodes (task.All n h) ts ts' at lines inside
+      (rw e (all_unfolded names (length lines) n h ts (forms_of (drop at nodes)))) (rw e (all_lighter n h ts))
+
+  pub operands_taken : (n there pl : ℕ) (h : Holding) → ts' ≡ operand_tasks n there pl h ts → at ≤ length nodes
+      → Stepped names nodes (task.Operands n there pl h) ts at lines ts' lines at
+  operands_taken n there pl h e inside =
+      retasked names nodes (task.Operands n there pl h) ts ts' at lines inside
+      (rw e (operands_unfolded names (length lines) n there pl h ts (forms_of (drop at nodes)))) (rw e (operands_lighter n there pl h ts))
+
+  pub clauses_taken : (n to pl : ℕ) (h : Holding) → ts' ≡ clause_tasks n to pl h ts → at ≤ length nodes
+      → Stepped names nodes (task.Clauses n to pl h) ts at lines ts' lines at
+  clauses_taken n to pl h e inside =
+      retasked names nodes (task.Clauses n to pl h) ts ts' at lines inside
+      (rw e (clauses_unfolded names (length lines) n to pl h ts (forms_of (drop at nodes)))) (rw e (clauses_lighter n to pl h ts))
+
+-- a line is written
+pub line_taken : (names : List FunctionName) (nodes : List FormNode) (ts : List Task) (at : ℕ) (m : Mark) (lines lines' : List Placed) → at ≤ length nodes
+    → lines' ≡ lines ++ (placed_of [] m ∷ []) → Stepped names nodes (task.Write m) ts at lines ts lines' at
+line_taken names nodes ts at m lines lines' inside new =
+    let longer : length lines' ≡ suc (length lines) = ap length new ∙ omega (arith, length-append lines (placed_of [] m ∷ [])) in
+    record {
+      within = inside;
+      ready = λ r. r;
+      same = ap (λ a. lines' ++ run names a ts (forms_of (drop at nodes))) longer
+          ∙ ap (λ l. l ++ run names (suc (length lines)) ts (forms_of (drop at nodes))) new
+          ∙ append_assoc lines (placed_of [] m ∷ []) (run names (suc (length lines)) ts (forms_of (drop at nodes)));
+      less_left = omega arith;
+    }
+
+-- where no form is left, none is taken
+pub none_taken : (names : List FunctionName) (nodes : List FormNode) (ts : List Task) (at : ℕ) (h : Holding) (lines : List Placed) → at ≤ length nodes
+    → forms_of (drop at nodes) ≡ NoTrees → Stepped names nodes (task.Form h) ts at lines ts lines at
+none_taken names nodes ts at h lines inside none =
+    record { within = inside; ready = λ r. r; same = rw none refl; less_left = omega arith }
+
+pub no_clause_taken : (names : List FunctionName) (nodes : List FormNode) (ts : List Task) (at to pl : ℕ) (h : Holding) (lines : List Placed) → at ≤ length nodes
+    → forms_of (drop at nodes) ≡ NoTrees → Stepped names nodes (task.Clause h to pl) ts at lines ts lines at
+no_clause_taken names nodes ts at to pl h lines inside none =
+    record { within = inside; ready = λ r. r; same = rw none refl; less_left = omega arith }
+
+-- what is going on goes on
+pub going_on : (names : List FunctionName) (nodes : List FormNode) (at at' : ℕ) (ts later ts' : List Task) (t : Task) (lines lines' every : List Placed)
+    → Going names nodes at ts lines every → ts ≡ t ∷ later → Stepped names nodes t later at lines ts' lines' at' → Going names nodes at' ts' lines' every
+going_on names nodes at at' ts later ts' t lines lines' every g e s =
+    let all : to_come names nodes at (t ∷ later) lines ≡ every = rw e at g.all in
+    record { inside = s.within; all = s.same ∙ all; few = g.few; ready = s.ready g.ready }
+
+-- what is written when nothing is left to do is all
+pub gone : (names : List FunctionName) (nodes : List FormNode) (at : ℕ) (ts : List Task) (lines every : List Placed)
+    → Going names nodes at ts lines every → ts ≡ [] → lines ≡ every
+gone names nodes at ts lines every g e =
+    let all : lines ++ [] ≡ every = rw e at g.all in
+    sym (append-nil lines) ∙ all
+
+-- the next form has room
+pub form_room : (names : List FunctionName) (nodes : List FormNode) (at : ℕ) (later : List Task) (h : Holding) (lines every : List Placed)
+    → Going names nodes at (task.Form h ∷ later) lines every → length lines + size (first (forms_of (drop at nodes))) ≤ most_lines
+form_room names nodes at later h lines every g =
+    let f : Forms = forms_of (drop at nodes) in
+    omega (
+      arith,
+      g.few,
+      ap length g.all,
+      length-append lines (run names (length lines) (task.Form h ∷ later) f),
+      laid_long (first f) names (first_way f no_way) h (length lines) (run names (past (length lines) (first f)) later (others f))
+    )
