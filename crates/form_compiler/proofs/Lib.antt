@@ -11,3 +11,4 @@ pub mod Taken
 pub mod Scheduled
 pub mod Choices
 pub mod Tasked
+pub mod Lined

@@ -7,3 +7,5 @@ pub mod Gives
 pub mod Reaches
 pub mod Marks
 pub mod Tasks
+pub mod Sound
+pub mod Sheets

@@ -10,5 +10,6 @@ pub mod extent;
 mod operands;
 pub mod row;
 mod sizes;
+mod sheet;
 pub mod task;
 pub mod laws;

@@ -1,3 +1,6 @@
+ghost use Rattle.std.specs.Prelude.{◌≡◌};
+ghost use Rattle.form_compiler.specs.inside.Marks.{HasNoClauses};
+
 use lisp_base::id::Place;
 use lisp_code::instr::Instr;
 use std::marker::Model;
@@ -30,4 +33,22 @@ impl Model for Light {
     ghost invariant = { λ l. HasNoClauses l.mark.instr };
 
     ghost inverse = { λ m. record { mark = m } };
+}
+
+impl Light {
+    /// This line.
+    pub(crate) fn of(mark: Mark) -> Self
+        requires { HasNoClauses mark.instr }
+        ensures { result ≡ mark }
+    {
+        Light { mark }
+    }
+
+    /// The line.
+    pub fn mark(self) -> Mark
+        ensures is { result ≡ self }
+        ensures light { HasNoClauses result.instr }
+    {
+        self.mark
+    }
 }
