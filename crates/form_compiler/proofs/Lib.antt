@@ -19,3 +19,4 @@ pub mod Fine
 pub mod Sounding
 pub mod Whole
 pub mod Heights
+pub mod Lined

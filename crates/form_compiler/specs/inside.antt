@@ -11,3 +11,4 @@ pub mod Steps
 pub mod Lists
 pub mod Fits
 pub mod Sound
+pub mod Sheets

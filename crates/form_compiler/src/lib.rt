@@ -17,6 +17,7 @@ mod schedule;
 mod service;
 pub mod site;
 mod sizes;
+mod sheet;
 pub mod task;
 pub mod tasks;
 mod unbuilt;
