@@ -7,6 +7,7 @@ mod held;
 pub mod hold;
 pub mod laws;
 mod lengths;
+mod layout;
 mod light;
 pub mod mark;
 mod names;

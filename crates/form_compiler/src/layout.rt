@@ -1,0 +1,154 @@
+//! Forms laid out as lines, task by task.
+ghost use Rattle.std.specs.Prelude.{ℕ, List, ◌≡◌, ◌≤◌, ◌<◌, ◌+◌, ◌^◌, ◌∷◌, drop, length, min, IfOk, OnOk};
+ghost use Rattle.lisp_base.specs.declared.id.FunctionName.{FunctionName as NameOf};
+ghost use Rattle.lisp_program.specs.Forms.{forms_of};
+ghost use Rattle.lisp_program.specs.declared.form.FormNode.{FormNode as Node};
+ghost use Rattle.lisp_code.specs.Lines.{Placed, size};
+ghost use Rattle.form_compiler.specs.inside.Extents.{MOST, extents_of};
+ghost use Rattle.form_compiler.specs.inside.Steps.{AreReady, Stepped, most_lines};
+ghost use Rattle.form_compiler.specs.inside.Tasks as plan;
+ghost use Rattle.form_compiler.specs.declared.task.Task.{Task as TaskOf};
+
+use crate::extent::Extent;
+use crate::hold::Hold;
+use crate::names::Names;
+use crate::sheet::Sheet;
+use crate::sizes::under;
+use crate::task::Task;
+use crate::tasks::Tasks;
+use crate::unfold::{push_all, push_body, push_clauses, push_operands, push_part};
+use lisp_base::id::Place;
+use lisp_base::memory::Memory;
+use lisp_program::form::FormNode;
+
+/// How many lines the next form has, as far as they are counted.
+fn lines_of(nodes: &[FormNode], extents: &[Extent], at: usize) -> u32
+    requires { extents.now ≡ extents_of nodes.now }
+    ensures { result ≡ min (size (plan.first (forms_of (drop at nodes.now)))) MOST }
+{
+    if at < nodes.len() {
+        extents[at].lines
+    } else {
+        0
+    }
+}
+
+/// How many lines the next form has where some are there, else those of NIL.
+fn part_lines(nodes: &[FormNode], extents: &[Extent], at: usize, there: usize) -> u32
+    requires { extents.now ≡ extents_of nodes.now }
+    ensures { (place : ℕ) → result ≡ min (size (plan.part there place (forms_of (drop at nodes.now)))) MOST }
+{
+    match there {
+        0 => 1,
+        _ => lines_of(nodes, extents, at),
+    }
+}
+
+/// The node after the next form.
+fn next_of(nodes: &[FormNode], extents: &[Extent], at: usize) -> usize
+    requires known { extents.now ≡ extents_of nodes.now }
+    requires inside { at ≤ length nodes.now }
+    ensures forms { forms_of (drop result nodes.now) ≡ plan.others (forms_of (drop at nodes.now)) }
+    ensures within { result ≤ length nodes.now }
+{
+    if at < nodes.len() {
+        at + extents[at].nodes
+    } else {
+        at
+    }
+}
+
+/// The node after the next form where some are there.
+fn part_end(nodes: &[FormNode], extents: &[Extent], at: usize, there: usize) -> usize
+    requires known { extents.now ≡ extents_of nodes.now }
+    requires inside { at ≤ length nodes.now }
+    ensures forms { forms_of (drop result nodes.now) ≡ plan.part_left there (forms_of (drop at nodes.now)) }
+    ensures within { result ≤ length nodes.now }
+{
+    match there {
+        0 => at,
+        _ => next_of(nodes, extents, at),
+    }
+}
+
+/// Passes over so many forms, and says at which node those that are left begin.
+fn skip(nodes: &[FormNode], extents: &[Extent], at: usize, forms: usize) -> usize
+    requires known { extents.now ≡ extents_of nodes.now }
+    requires inside { at ≤ length nodes.now }
+    ensures { (names : List NameOf) → (tasks : List TaskOf) → (lines : List Placed) → Stepped names nodes.now (TaskOf.Skip forms) tasks at lines tasks lines result }
+{
+    let passed = under(nodes, extents, at, forms, 0);
+    at + passed.nodes
+}
+
+/// Takes up a part.
+fn take_part(
+    names: &Names,
+    there: usize,
+    place: Place,
+    hold: Hold,
+    tasks: &mut Tasks,
+) -> Result<(), Memory>
+    ensures { (nodes : List Node) → (at : ℕ) → (lines : List Placed) → at ≤ length nodes → OnOk result (Stepped names.now nodes (TaskOf.Part there place hold) tasks.old at lines tasks.new lines at) }
+{
+    push_part(names, there, place, hold, tasks)?;
+    Ok(())
+}
+
+/// Takes up a body.
+fn take_body(
+    names: &Names,
+    forms: usize,
+    place: Place,
+    hold: Hold,
+    tasks: &mut Tasks,
+) -> Result<(), Memory>
+    ensures { (nodes : List Node) → (at : ℕ) → (lines : List Placed) → at ≤ length nodes → OnOk result (Stepped names.now nodes (TaskOf.Body forms place hold) tasks.old at lines tasks.new lines at) }
+{
+    push_body(names, forms, place, hold, tasks)?;
+    Ok(())
+}
+
+/// Takes up forms in turn.
+fn take_all(
+    names: &Names,
+    forms: usize,
+    hold: Hold,
+    tasks: &mut Tasks,
+) -> Result<(), Memory>
+    ensures { (nodes : List Node) → (at : ℕ) → (lines : List Placed) → at ≤ length nodes → OnOk result (Stepped names.now nodes (TaskOf.All forms hold) tasks.old at lines tasks.new lines at) }
+{
+    push_all(forms, hold, tasks)?;
+    Ok(())
+}
+
+/// Takes up operands.
+fn take_operands(
+    names: &Names,
+    wanted: usize,
+    there: usize,
+    place: Place,
+    hold: Hold,
+    tasks: &mut Tasks,
+) -> Result<(), Memory>
+    ensures { (nodes : List Node) → (at : ℕ) → (lines : List Placed) → at ≤ length nodes → OnOk result (Stepped names.now nodes (TaskOf.Operands wanted there place hold) tasks.old at lines tasks.new lines at) }
+{
+    push_operands(wanted, there, place, hold, tasks)?;
+    Ok(())
+}
+
+/// Takes up clauses.
+fn take_clauses(
+    names: &Names,
+    forms: usize,
+    to: u32,
+    place: Place,
+    hold: Hold,
+    tasks: &mut Tasks,
+) -> Result<(), Memory>
+    ensures { (nodes : List Node) → (at : ℕ) → (lines : List Placed) → at ≤ length nodes → OnOk result (Stepped names.now nodes (TaskOf.Clauses forms to place hold) tasks.old at lines tasks.new lines at) }
+{
+    push_clauses(forms, to, place, hold, tasks)?;
+    Ok(())
+}
+
