@@ -14,6 +14,7 @@ pub mod Tasked
 pub mod Unfolded
 pub mod Steps
 pub mod Handlers
+pub mod Seconds
 pub mod Fitting
 pub mod Fine
 pub mod Sounding

@@ -12,3 +12,4 @@ pub mod Lists
 pub mod Fits
 pub mod Sound
 pub mod Sheets
+pub mod Seconds

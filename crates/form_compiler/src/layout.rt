@@ -6,6 +6,7 @@ ghost use Rattle.lisp_program.specs.declared.form.FormNode.{FormNode as Node};
 ghost use Rattle.lisp_code.specs.Lines.{Placed, size};
 ghost use Rattle.form_compiler.specs.inside.Extents.{MOST, extents_of};
 ghost use Rattle.form_compiler.specs.inside.Steps.{AreReady, Stepped, most_lines};
+ghost use Rattle.form_compiler.specs.inside.Seconds.{BeginsAt, branch_lines, protected_lines};
 ghost use Rattle.form_compiler.specs.inside.Tasks as plan;
 ghost use Rattle.form_compiler.specs.declared.task.Task.{Task as TaskOf};
 
@@ -16,15 +17,16 @@ use crate::sheet::Sheet;
 use crate::sizes::under;
 use crate::task::Task;
 use crate::tasks::Tasks;
-use crate::unfold::{push_all, push_body, push_clauses, push_operands, push_part};
+use crate::unfold::{less, push_all, push_body, push_clauses, push_operands, push_part};
 use lisp_base::id::Place;
 use lisp_base::memory::Memory;
-use lisp_program::form::FormNode;
+use lisp_program::form::{CoreKind, FormNode};
 
 /// How many lines the next form has, as far as they are counted.
 fn lines_of(nodes: &[FormNode], extents: &[Extent], at: usize) -> u32
     requires { extents.now ≡ extents_of nodes.now }
-    ensures { result ≡ min (size (plan.first (forms_of (drop at nodes.now)))) MOST }
+    ensures lines { result ≡ min (size (plan.first (forms_of (drop at nodes.now)))) MOST }
+    ensures few { result ≤ MOST }
 {
     if at < nodes.len() {
         extents[at].lines
@@ -36,7 +38,8 @@ fn lines_of(nodes: &[FormNode], extents: &[Extent], at: usize) -> u32
 /// How many lines the next form has where some are there, else those of NIL.
 fn part_lines(nodes: &[FormNode], extents: &[Extent], at: usize, there: usize) -> u32
     requires { extents.now ≡ extents_of nodes.now }
-    ensures { (place : ℕ) → result ≡ min (size (plan.part there place (forms_of (drop at nodes.now)))) MOST }
+    ensures lines { (place : ℕ) → result ≡ min (size (plan.part there place (forms_of (drop at nodes.now)))) MOST }
+    ensures few { result ≤ MOST }
 {
     match there {
         0 => 1,
@@ -68,6 +71,49 @@ fn part_end(nodes: &[FormNode], extents: &[Extent], at: usize, there: usize) -> 
     match there {
         0 => at,
         _ => next_of(nodes, extents, at),
+    }
+}
+
+/// Where the second branch of an `if` begins, whose lines begin at `start`, and whose parts begin at the node `at`.
+fn second_branch(nodes: &[FormNode], extents: &[Extent], at: usize, start: u32, forms: usize) -> u32
+    requires known { extents.now ≡ extents_of nodes.now }
+    requires inside { at ≤ length nodes.now }
+    requires room { start ≤ most_lines }
+    ensures { result ≡ start + branch_lines forms (forms_of (drop at nodes.now)) }
+{
+    let test = part_lines(nodes, extents, at, forms);
+    let after = part_end(nodes, extents, at, forms);
+    let branch = part_lines(nodes, extents, after, less(forms));
+    start + test + branch + 2
+}
+
+/// Where the cleanup of an `unwind-protect` begins, whose lines begin at `start`, and whose parts begin at the node `at`.
+fn cleanup_start(nodes: &[FormNode], extents: &[Extent], at: usize, start: u32, forms: usize) -> u32
+    requires known { extents.now ≡ extents_of nodes.now }
+    requires room { start ≤ most_lines }
+    ensures { result ≡ start + protected_lines forms (forms_of (drop at nodes.now)) }
+{
+    start + part_lines(nodes, extents, at, forms) + 2
+}
+
+/// Where the second part of a form begins, if it has one.
+fn second_of(
+    kind: &CoreKind,
+    nodes: &[FormNode],
+    extents: &[Extent],
+    at: usize,
+    start: u32,
+    forms: usize,
+) -> u32
+    requires known { extents.now ≡ extents_of nodes.now }
+    requires inside { at ≤ length nodes.now }
+    requires room { start ≤ most_lines }
+    ensures { BeginsAt kind.now start result forms (forms_of (drop at nodes.now)) }
+{
+    match kind {
+        CoreKind::If => second_branch(nodes, extents, at, start, forms),
+        CoreKind::UnwindProtect => cleanup_start(nodes, extents, at, start, forms),
+        _ => 0,
     }
 }
 
