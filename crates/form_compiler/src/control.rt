@@ -2,7 +2,6 @@
 ghost use Rattle.std.specs.Prelude.{◌≡◌, OnOk};
 ghost use Rattle.form_compiler.specs.inside.Tasks.{choosing, deadline_tasks, handling, looping, protecting};
 
-use crate::names::Names;
 use crate::parts::{plain, push_framed};
 use crate::site::Site;
 use crate::task::Task;

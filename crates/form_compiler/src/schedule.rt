@@ -1,5 +1,5 @@
-//! The tasks of a form by its kind.
-ghost use Rattle.std.specs.Prelude.{◌≡◌, ◌≤◌, ◌<◌, ◌+◌, ◌^◌, ◌∷◌, OnOk};
+//! The tasks of a form by its kind. Where they do not depend on the names of functions, contracts give no names.
+ghost use Rattle.std.specs.Prelude.{◌≡◌, [], ◌≤◌, ◌<◌, ◌+◌, ◌^◌, ◌∷◌, OnOk};
 ghost use Rattle.lisp_code.specs.Held.{one_more as one_more_of};
 ghost use Rattle.form_compiler.specs.inside.Tasks.{binding, framed, onward as onward_of, schedule as schedule_of, weight};
 
@@ -23,15 +23,9 @@ use lisp_program::form::CoreKind;
 use lisp_program::function::Service;
 
 /// The tasks of a special variable.
-fn push_special(
-    names: &Names,
-    variable: SymbolId,
-    site: &Site,
-    tasks: &mut Tasks,
-) -> Result<(), Memory>
-    ensures { OnOk result (tasks.new ≡ schedule_of names.now (CoreKind.Special variable) site.now tasks.old) }
+fn push_special(variable: SymbolId, site: &Site, tasks: &mut Tasks) -> Result<(), Memory>
+    ensures { OnOk result (tasks.new ≡ schedule_of [] (CoreKind.Special variable) site.now tasks.old) }
 {
-    let _ = names;
     tasks.put(&[
         ask(Question::Read(variable), site, site.hold)?,
         Task::Skip(site.forms),
@@ -39,15 +33,9 @@ fn push_special(
 }
 
 /// The tasks of a `defvar`.
-fn push_defvar(
-    names: &Names,
-    variable: SymbolId,
-    site: &Site,
-    tasks: &mut Tasks,
-) -> Result<(), Memory>
-    ensures { OnOk result (tasks.new ≡ schedule_of names.now (CoreKind.Defvar variable) site.now tasks.old) }
+fn push_defvar(variable: SymbolId, site: &Site, tasks: &mut Tasks) -> Result<(), Memory>
+    ensures { OnOk result (tasks.new ≡ schedule_of [] (CoreKind.Defvar variable) site.now tasks.old) }
 {
-    let _ = names;
     let test = test_light(Question::IsBound(variable), site.end, site.place, site.hold)?;
     push_asking(1, Question::Define(variable), site, tasks)?;
     tasks.push(Task::Write(test))
@@ -69,15 +57,9 @@ fn push_call(
 }
 
 /// The tasks of a service.
-fn push_served(
-    names: &Names,
-    service: &Service,
-    site: &Site,
-    tasks: &mut Tasks,
-) -> Result<(), Memory>
-    ensures { OnOk result (tasks.new ≡ schedule_of names.now (CoreKind.Serve service.now) site.now tasks.old) }
+fn push_served(service: &Service, site: &Site, tasks: &mut Tasks) -> Result<(), Memory>
+    ensures { OnOk result (tasks.new ≡ schedule_of [] (CoreKind.Serve service.now) site.now tasks.old) }
 {
-    let _ = names;
     let operands = served_of(service);
     let full = site.hold.with_more(operands)?;
     push_service(service, site.place, site.end, full, tasks)?;
@@ -85,8 +67,8 @@ fn push_served(
 }
 
 /// The tasks of a `catch`.
-fn push_catch(names: &Names, site: &Site, tasks: &mut Tasks) -> Result<(), Memory>
-    ensures { OnOk result (tasks.new ≡ schedule_of names.now CoreKind.Catch site.now tasks.old) }
+fn push_catch(site: &Site, tasks: &mut Tasks) -> Result<(), Memory>
+    ensures { OnOk result (tasks.new ≡ schedule_of [] CoreKind.Catch site.now tasks.old) }
 {
     let full = site.hold.with_more(1)?;
     push_framed(Opening::Catch, less(site.forms), site, full, tasks)?;
@@ -136,14 +118,14 @@ pub(crate) fn push_schedule(
         CoreKind::CurrentThread => push_alone(names, Act::PushThread, site, tasks),
         CoreKind::Function(name) => push_alone(names, Act::PushFunction(name), site, tasks),
         CoreKind::Local(variable) => push_alone(names, Act::ReadLocal(variable), site, tasks),
-        CoreKind::Special(variable) => push_special(names, variable, site, tasks),
+        CoreKind::Special(variable) => push_special(variable, site, tasks),
         CoreKind::SetLocal(variable) => {
             push_acting(names, 1, Act::WriteLocal(variable), site, tasks)
         },
         CoreKind::SetSpecial(variable) => {
             push_asking(1, Question::Write(variable), site, tasks)
         },
-        CoreKind::Defvar(variable) => push_defvar(names, variable, site, tasks),
+        CoreKind::Defvar(variable) => push_defvar(variable, site, tasks),
         CoreKind::Defparameter(variable) => {
             push_asking(1, Question::Define(variable), site, tasks)
         },
@@ -179,12 +161,12 @@ pub(crate) fn push_schedule(
                 tasks,
             )
         },
-        CoreKind::Serve(service) => push_served(names, &service, site, tasks),
+        CoreKind::Serve(service) => push_served(&service, site, tasks),
         CoreKind::Block(entry) => push_block(Opening::Block(entry), site, tasks),
         CoreKind::ReturnFrom(entry) => {
             push_acting(names, 1, Act::ReturnFrom(entry), site, tasks)
         },
-        CoreKind::Catch => push_catch(names, site, tasks),
+        CoreKind::Catch => push_catch(site, tasks),
         CoreKind::Throw => push_acting(names, 2, Act::Throw, site, tasks),
         CoreKind::UnwindProtect => push_protecting(site, tasks),
         CoreKind::WithoutInterrupts(number) => {
