@@ -121,7 +121,7 @@ handler_written rows clauses ms place height held h =
     let count : length (rows_of rows) ≡ length rows = length-map rows (λ (v : Vec Clause). v.items) in
     let all : rows_of (rows ++ clauses ∷ []) ≡ rows_of rows ++ clauses.items ∷ [] = map-append (λ (v : Vec Clause). v.items) rows (clauses ∷ []) in
     let before : map (placed_of (rows_of rows ++ clauses.items ∷ [])) ms ≡ map (placed_of (rows_of rows)) ms =
-        kept (rows_of rows) (clauses.items ∷ []) ms (subst (λ n. HaveRows n ms) (sym count) h) in
+    kept (rows_of rows) (clauses.items ∷ []) ms (subst (λ n. HaveRows n ms) (sym count) h) in
     let last : row_of (rows_of rows ++ clauses.items ∷ []) (length rows) ≡ clauses.items = get_or_at (rows_of rows) clauses.items [] [] (length rows) count in
     ap (λ rs. map (placed_of rs) (ms ++ row ∷ [])) all
     ∙ map-append (placed_of (rows_of rows ++ clauses.items ∷ [])) ms (row ∷ [])
