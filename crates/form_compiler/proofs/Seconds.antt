@@ -1,14 +1,12 @@
 -- Where the second part of a form begins.
-use Rattle.std.proofs.Common.{◌≡◌, ◌≤◌, ℕ, zero, suc, ◌+◌, min, arith, refl, ap}
+use Rattle.std.proofs.Common.{◌≡◌, ◌≤◌, ℕ, suc, ◌+◌, arith}
 use Rattle.lisp_base.specs.Forest.{NoTrees, Tree, count_of}
 use Rattle.lisp_program.specs.Forms.{Forms}
-use Rattle.lisp_program.specs.declared.form.CoreKind.{CoreKind}
 use Rattle.lisp_program.specs.declared.form.CoreKind.TheVariants as k
-use Rattle.form_points.specs.Points.{Choose, Done, Points, body_of}
+use Rattle.form_points.specs.Points.{Choose, Done, Points}
 use Rattle.form_points.specs.Table.{points_of, table}
 use Rattle.lisp_code.specs.Lines.{past, size}
-use Rattle.form_compiler.specs.inside.Extents.{MOST}
-use Rattle.form_compiler.specs.inside.Seconds.{BeginsAt, branch_lines, protected_lines}
+use Rattle.form_compiler.specs.inside.Seconds.{branch_lines, protected_lines}
 use Rattle.form_compiler.specs.inside.Steps.{most_lines}
 use Rattle.form_compiler.specs.inside.Tasks.{IsSecond, Site, beside_of, less, nil_at, part, part_left}
 use Rattle.form_compiler.proofs.Sized.{size-joined}

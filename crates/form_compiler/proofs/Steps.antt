@@ -262,5 +262,5 @@ form_room names nodes at later h lines every g =
       g.few,
       ap length g.all,
       length-append lines (run names (length lines) (task.Form h ∷ later) f),
-      laid_long (first f) names (first_way f no_way) h (length lines) (run names (past (length lines) (first f)) later (others f))
+      laid_long (first f) names (first_way f no_way) h (length lines) (run names (past (length lines) (first f)) later (others f)),
     )

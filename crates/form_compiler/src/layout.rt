@@ -156,12 +156,7 @@ fn take_body(
 }
 
 /// Takes up forms in turn.
-fn take_all(
-    names: &Names,
-    forms: usize,
-    hold: Hold,
-    tasks: &mut Tasks,
-) -> Result<(), Memory>
+fn take_all(names: &Names, forms: usize, hold: Hold, tasks: &mut Tasks) -> Result<(), Memory>
     ensures { (nodes : List Node) → (at : ℕ) → (lines : List Placed) → at ≤ length nodes → OnOk result (Stepped names.now nodes (TaskOf.All forms hold) tasks.old at lines tasks.new lines at) }
 {
     push_all(forms, hold, tasks)?;
@@ -197,4 +192,3 @@ fn take_clauses(
     push_clauses(forms, to, place, hold, tasks)?;
     Ok(())
 }
-
