@@ -2,11 +2,12 @@
 use Rattle.std.proofs.Common.{◌≡◌, ◌≤◌, ℕ, suc, ◌+◌, arith}
 use Rattle.lisp_base.specs.Forest.{NoTrees, Tree, count_of}
 use Rattle.lisp_program.specs.Forms.{Forms}
+use Rattle.lisp_program.specs.declared.form.CoreKind.{CoreKind}
 use Rattle.lisp_program.specs.declared.form.CoreKind.TheVariants as k
 use Rattle.form_points.specs.Points.{Choose, Done, Points}
 use Rattle.form_points.specs.Table.{points_of, table}
 use Rattle.lisp_code.specs.Lines.{past, size}
-use Rattle.form_compiler.specs.inside.Seconds.{branch_lines, protected_lines}
+use Rattle.form_compiler.specs.inside.Seconds.{BeginsAt, branch_lines, protected_lines}
 use Rattle.form_compiler.specs.inside.Steps.{most_lines}
 use Rattle.form_compiler.specs.inside.Tasks.{IsSecond, Site, beside_of, less, nil_at, part, part_left}
 use Rattle.form_compiler.proofs.Sized.{size-joined}
@@ -43,3 +44,43 @@ protected-second pl s u b c room e =
     let t : Points = part s.forms 0 (beside_of u b) in
     let inside : size t + 2 ≤ size (table k.UnwindProtect pl (points_of u)) = rw c (protected-within pl u b) in
     omega (arith, e, room, inside, past-size t (suc s.at))
+
+-- so it is for each kind
+pub second_known : (kind : CoreKind) (pl : ℕ) (s : Site) (u b : Forms) → s.forms ≡ count_of u → s.at + size (table kind pl (points_of u)) ≤ most_lines
+    → BeginsAt kind s.at s.second s.forms (beside_of u b) → IsSecond kind s (beside_of u b)
+second_known (k.Constant v) pl s u b c room e = tt
+second_known k.CurrentThread pl s u b c room e = tt
+second_known (k.Function n) pl s u b c room e = tt
+second_known (k.Local x) pl s u b c room e = tt
+second_known (k.Special v) pl s u b c room e = tt
+second_known (k.SetLocal x) pl s u b c room e = tt
+second_known (k.SetSpecial v) pl s u b c room e = tt
+second_known (k.Defvar v) pl s u b c room e = tt
+second_known (k.Defparameter v) pl s u b c room e = tt
+second_known (k.Defun f) pl s u b c room e = tt
+second_known (k.CompareAndSwap v) pl s u b c room e = tt
+second_known k.Progn pl s u b c room e = tt
+second_known k.If pl s u b c room e = if-second pl s u b c room e
+second_known k.While pl s u b c room e = tt
+second_known k.Let pl s u b c room e = tt
+second_known (k.BindLocal x a) pl s u b c room e = tt
+second_known (k.BindSpecial v a) pl s u b c room e = tt
+second_known (k.Call f) pl s u b c room e = tt
+second_known (k.Apply f) pl s u b c room e = tt
+second_known (k.Print p) pl s u b c room e = tt
+second_known (k.Serve service) pl s u b c room e = tt
+second_known (k.Block n) pl s u b c room e = tt
+second_known (k.ReturnFrom n) pl s u b c room e = tt
+second_known k.Catch pl s u b c room e = tt
+second_known k.Throw pl s u b c room e = tt
+second_known k.UnwindProtect pl s u b c room e = protected-second pl s u b c room e
+second_known (k.WithoutInterrupts r) pl s u b c room e = tt
+second_known (k.AllowWithInterrupts r) pl s u b c room e = tt
+second_known k.WithInterrupts pl s u b c room e = tt
+second_known k.HandlerCase pl s u b c room e = tt
+second_known (k.Clause class) pl s u b c room e = tt
+second_known (k.ClauseWith class x) pl s u b c room e = tt
+second_known (k.Signal class) pl s u b c room e = tt
+second_known (k.WithDeadline a t) pl s u b c room e = tt
+second_known k.AbortThread pl s u b c room e = tt
+second_known k.ReturnFromThread pl s u b c room e = tt
