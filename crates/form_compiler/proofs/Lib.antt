@@ -15,6 +15,7 @@ pub mod Unfolded
 pub mod Steps
 pub mod Handlers
 pub mod Seconds
+pub mod Sited
 pub mod Fitting
 pub mod Fine
 pub mod Sounding

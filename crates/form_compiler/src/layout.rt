@@ -1,19 +1,19 @@
 //! Forms laid out as lines, task by task.
-ghost use Rattle.std.specs.Prelude.{ℕ, List, ◌≡◌, ◌≤◌, ◌<◌, ◌+◌, ◌^◌, ◌∷◌, drop, length, min, IfOk, OnOk};
+ghost use Rattle.std.specs.Prelude.{ℕ, List, ◌≡◌, ◌≤◌, ◌<◌, ◌+◌, ◌^◌, ◌∷◌, drop, length, min, OnOk};
 ghost use Rattle.lisp_base.specs.declared.id.FunctionName.{FunctionName as NameOf};
 ghost use Rattle.lisp_program.specs.Forms.{forms_of};
 ghost use Rattle.lisp_program.specs.declared.form.FormNode.{FormNode as Node};
 ghost use Rattle.lisp_code.specs.Lines.{Placed, size};
 ghost use Rattle.form_compiler.specs.inside.Extents.{MOST, extents_of};
 ghost use Rattle.form_compiler.specs.inside.Steps.{AreReady, Stepped, most_lines};
-ghost use Rattle.form_compiler.specs.inside.Seconds.{BeginsAt, branch_lines, protected_lines};
+ghost use Rattle.form_compiler.specs.inside.Seconds.{BeginsAt, branch_lines, clause_of, protected_lines, site};
 ghost use Rattle.form_compiler.specs.inside.Tasks as plan;
 ghost use Rattle.form_compiler.specs.declared.task.Task.{Task as TaskOf};
 
 use crate::extent::Extent;
 use crate::hold::Hold;
 use crate::names::Names;
-use crate::sheet::Sheet;
+use crate::site::Site;
 use crate::sizes::under;
 use crate::task::Task;
 use crate::tasks::Tasks;
@@ -21,6 +21,13 @@ use crate::unfold::{less, push_all, push_body, push_clauses, push_operands, push
 use lisp_base::id::Place;
 use lisp_base::memory::Memory;
 use lisp_program::form::{CoreKind, FormNode};
+
+/// Where a clause goes on, and the place of its `handler-case`.
+#[derive(Clone, Copy)]
+struct Onward {
+    to: u32,
+    place: Place,
+}
 
 /// How many lines the next form has, as far as they are counted.
 fn lines_of(nodes: &[FormNode], extents: &[Extent], at: usize) -> u32
@@ -191,4 +198,36 @@ fn take_clauses(
 {
     push_clauses(forms, to, place, hold, tasks)?;
     Ok(())
+}
+
+/// Whether a form of this kind is a clause of a `handler-case`.
+fn is_clause(kind: &CoreKind) -> bool
+    ensures { result ≡ clause_of kind.now }
+{
+    matches!(kind, CoreKind::Clause(_) | CoreKind::ClauseWith(_, _))
+}
+
+/// The site of a node with this extent. It begins at `start`, and goes along this way if it is a clause.
+fn site_of(
+    node: &FormNode,
+    extent: Extent,
+    start: u32,
+    second: u32,
+    hold: Hold,
+    way: Onward,
+) -> Site
+    requires { start + extent.lines < 2 ^ 32 }
+    ensures { result ≡ site node.now extent start second hold (record { to = way.to; place = way.place }) }
+{
+    let on_way = is_clause(&node.kind);
+    Site {
+        place: node.place,
+        hold,
+        at: start,
+        end: start + extent.lines,
+        second,
+        forms: extent.forms,
+        to: if on_way { way.to } else { 0 },
+        way_place: if on_way { way.place } else { Place(0) },
+    }
 }

@@ -1,11 +1,14 @@
 -- Where the second part of a form begins, by the lines before it.
-use Rattle.std.specs.Prelude.{◌≡◌, ℕ, ◌+◌, min}
+use Rattle.std.specs.Prelude.{◌≡◌, ℕ, ◌+◌, min, Bool, true, false}
 use Rattle.lisp_program.specs.Forms.{Forms}
 use Rattle.lisp_program.specs.declared.form.CoreKind.{CoreKind}
 use Rattle.lisp_program.specs.declared.form.CoreKind.TheVariants as k
-use Rattle.lisp_code.specs.Lines.{size}
+use Rattle.lisp_program.specs.declared.form.FormNode.{FormNode}
+use Rattle.lisp_code.specs.Held.{Holding}
+use Rattle.lisp_code.specs.Lines.{Way, no_way, size}
+use Rattle.form_compiler.specs.declared.extent.Extent.{Extent}
 use Rattle.form_compiler.specs.inside.Extents.{MOST}
-use Rattle.form_compiler.specs.inside.Tasks.{less, part, part_left}
+use Rattle.form_compiler.specs.inside.Tasks.{Site, less, part, part_left}
 
 -- the lines before the second branch of an `if`, as far as they are counted: those of the test and of the first branch, and two
 abbrev pub branch_lines : ℕ → Forms → ℕ
@@ -20,3 +23,23 @@ abbrev pub BeginsAt : CoreKind → (start second forms : ℕ) → Forms → Type
 BeginsAt k.If start second m f = second ≡ start + branch_lines m f
 BeginsAt k.UnwindProtect start second m f = second ≡ start + protected_lines m f
 BeginsAt kind start second m f = Unit {0}
+
+-- a form of this kind is a clause
+abbrev pub clause_of : CoreKind → Bool
+clause_of (k.Clause class) = true
+clause_of (k.ClauseWith class x) = true
+clause_of kind = false
+
+-- this way for a clause, and none for another form
+abbrev pub way_by : Bool → Way → Way
+way_by true way = way
+way_by false way = no_way
+
+-- a node that stands for one that is not there
+abbrev pub nowhere : FormNode
+nowhere = record { kind = k.Progn; place = 0; parts = 0 }
+
+-- the site of a node with this extent
+abbrev pub site : FormNode → Extent → (start second : ℕ) → Holding → Way → Site
+site n e start second h way =
+    record { place = n.place; holding = h; at = start; end = start + e.lines; second = second; forms = e.forms; way = way_by (clause_of n.kind) way }
