@@ -9,7 +9,7 @@ use Rattle.form_points.specs.Table.{points_of, table}
 use Rattle.lisp_code.specs.Lines.{size}
 use Rattle.form_compiler.specs.declared.extent.Extent.{Extent}
 use Rattle.form_compiler.specs.declared.row.Row.{Row}
-use Rattle.form_compiler.specs.inside.Extents.{MOST, nodes_in, lines_in, gaps, row_of, row_lines, used, under_of, extents_of}
+use Rattle.form_compiler.specs.inside.Extents.{MOST, extent_of, nodes_in, lines_in, gaps, row_of, row_lines, used, under_of, extents_of}
 use Rattle.form_compiler.proofs.Sized.{body_sized, lines_in-all, row_capped, row_sized}
 use Rattle.form_compiler.proofs.Walk.{extents-dropped, length-extents, nodes_in-all, within}
 
@@ -30,7 +30,7 @@ pub nodes_fit : (nodes : List FormNode) (at u parts : ℕ) (under : Extent) → 
 nodes_fit nodes at u parts under e =
     omega (arith, ap (λ (x : Extent). x.nodes) e, within parts (drop at nodes), length-drop at nodes)
 
-few_in-front : (n : ℕ) (f : Forms) → count_of (front n f) ≤ n
+pub few_in-front : (n : ℕ) (f : Forms) → count_of (front n f) ≤ n
 few_in-front zero f = omega arith
 few_in-front (suc n) NoTrees = omega arith
 few_in-front (suc n) (Tree k p u b) = omega (arith, few_in-front n b)
@@ -51,6 +51,10 @@ extent_made nodes at d n row u total lines under h here r is e t l =
     let nodes' : under.nodes + 1 ≡ suc (nodes_in (front n.parts f)) = omega (arith, ap (λ (x : Extent). x.nodes) e') in
     let forms' : under.forms ≡ count_of (front n.parts f) = ap (λ (x : Extent). x.forms) e' in
     rw (node_at nodes at d n h here, lines', nodes', forms') refl
+
+-- the forms under a node are no more than its parts
+pub few_under : (n : FormNode) (f : Forms) (e : Extent) → e ≡ extent_of n f → e.forms ≤ n.parts
+few_under n f e is = omega (arith, ap (λ (x : Extent). x.forms) is, few_in-front n.parts f)
 
 count-few : (f : Forms) → count_of f ≤ nodes_in f
 count-few NoTrees = omega arith

@@ -1,5 +1,5 @@
 //! Forms laid out as lines, task by task.
-ghost use Rattle.std.specs.Prelude.{ℕ, List, ◌≡◌, ◌≤◌, ◌<◌, ◌+◌, ◌^◌, ◌∷◌, drop, length, min, OnOk};
+ghost use Rattle.std.specs.Prelude.{ℕ, List, ◌≡◌, ◌≤◌, ◌<◌, ◌+◌, ◌^◌, ◌∷◌, drop, get_or, length, min, OnOk};
 ghost use Rattle.lisp_base.specs.declared.id.FunctionName.{FunctionName as NameOf};
 ghost use Rattle.lisp_program.specs.Forms.{forms_of};
 ghost use Rattle.lisp_program.specs.declared.form.FormNode.{FormNode as Node};
@@ -13,6 +13,7 @@ ghost use Rattle.form_compiler.specs.declared.task.Task.{Task as TaskOf};
 use crate::extent::Extent;
 use crate::hold::Hold;
 use crate::names::Names;
+use crate::schedule::push_schedule;
 use crate::site::Site;
 use crate::sizes::under;
 use crate::task::Task;
@@ -216,8 +217,10 @@ fn site_of(
     hold: Hold,
     way: Onward,
 ) -> Site
-    requires { start + extent.lines < 2 ^ 32 }
-    ensures { result ≡ site node.now extent start second hold (record { to = way.to; place = way.place }) }
+    requires room { start + extent.lines < 2 ^ 32 }
+    requires few { extent.forms ≤ node.now.parts }
+    ensures site { result ≡ site node.now extent start second hold (record { to = way.to; place = way.place }) }
+    ensures few { result.forms < 2 ^ 32 }
 {
     let on_way = is_clause(&node.kind);
     Site {
@@ -226,8 +229,34 @@ fn site_of(
         at: start,
         end: start + extent.lines,
         second,
-        forms: extent.forms,
+        forms: extent.forms.min(node.parts as usize),
         to: if on_way { way.to } else { 0 },
         way_place: if on_way { way.place } else { Place(0) },
     }
+}
+
+/// Takes up the next form, which has no line with clauses. It goes along this way if it is a clause.
+fn take_light(
+    names: &Names,
+    nodes: &[FormNode],
+    extents: &[Extent],
+    at: usize,
+    start: u32,
+    hold: Hold,
+    way: Onward,
+    tasks: &mut Tasks,
+) -> Result<(), Memory>
+    requires known { extents.now ≡ extents_of nodes.now }
+    requires inside { at < length nodes.now }
+    requires ready { AreReady (forms_of (drop at nodes.now)) }
+    requires light { (d : Node) → plan.IsLight (get_or nodes.now at d).kind }
+    requires room { start + size (plan.first (forms_of (drop at nodes.now))) ≤ most_lines }
+    ensures { (lines : List Placed) → length lines ≡ start → OnOk result (Stepped names.now nodes.now (TaskOf.Clause hold way.to way.place) tasks.old at lines tasks.new lines (at + 1)) }
+{
+    let node = &nodes[at];
+    let extent = extents[at];
+    let second = second_of(&node.kind, nodes, extents, at + 1, start, extent.forms);
+    let site = site_of(node, extent, start, second, hold, way);
+    push_schedule(names, &node.kind, &site, tasks)?;
+    Ok(())
 }
