@@ -1,6 +1,8 @@
 //! Compiles programs: their points, laid out as code.
 #![tactic(auto)]
 
+mod clauses;
+pub mod compile;
 mod control;
 pub mod extent;
 mod held;
@@ -19,6 +21,7 @@ mod service;
 mod sheet;
 pub mod site;
 mod sizes;
+mod step;
 pub mod task;
 pub mod tasks;
 mod unbuilt;
