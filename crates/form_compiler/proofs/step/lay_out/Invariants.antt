@@ -12,7 +12,7 @@ use Rattle.form_compiler.proofs.step.lay_out.Given as goal
 abbrev pub invariant-loop-task : goal.invariant-loop-task
 invariant-loop-task l =
     Going l.names l.nodes l.at l.tasks l.sheet
-    (l.fn.old.sheet ++ laid l.names no_way l.fn.args.hold (length l.fn.old.sheet) (body_of l.fn.args.place (points_of (forms_of l.nodes))) (placed_of [] l.fn.args.last ∷ []))
+    (l.fn.sheet ++ laid l.names no_way l.fn.hold (length l.fn.sheet) (body_of l.fn.place (points_of (forms_of l.nodes))) (placed_of [] l.fn.last ∷ []))
 
 abbrev pub decreases-loop-task : goal.decreases-loop-task
 decreases-loop-task l = SHARE * (length l.nodes - l.at) + weight l.tasks
