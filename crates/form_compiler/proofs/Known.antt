@@ -56,11 +56,11 @@ extent_made nodes at d n row u total lines under h here r is e t l =
 pub few_under : (n : FormNode) (f : Forms) (e : Extent) → e ≡ extent_of n f → e.forms ≤ n.parts
 few_under n f e is = omega (arith, ap (λ (x : Extent). x.forms) is, few_in-front n.parts f)
 
-count-few : (f : Forms) → count_of f ≤ nodes_in f
+pub count-few : (f : Forms) → count_of f ≤ nodes_in f
 count-few NoTrees = omega arith
 count-few (Tree k p u b) = omega (arith, count-few b)
 
-front_all : (n : ℕ) (f : Forms) → count_of f ≤ n → front n f ≡ f
+pub front_all : (n : ℕ) (f : Forms) → count_of f ≤ n → front n f ≡ f
 front_all zero NoTrees h = refl
 front_all (suc n) NoTrees h = refl
 front_all zero (Tree k p u b) h = absurd (omega arith)

@@ -16,6 +16,8 @@ pub mod Steps
 pub mod Handlers
 pub mod Seconds
 pub mod Sited
+pub mod Begun
+pub mod Opened
 pub mod Fitting
 pub mod Fine
 pub mod Sounding

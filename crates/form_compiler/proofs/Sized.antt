@@ -57,7 +57,7 @@ body_sized pl (Tree k q u (Tree k' q' u' more)) =
     let later : Points = Do Discard pl (body_of pl (points_of (Tree k' q' u' more))) in
     omega (arith, body_sized pl (Tree k' q' u' more), size-joined (table k q (points_of u)) later)
 
-all_sized : (u : Forms) → size (all_of (points_of u)) ≡ lines_in (count_of u) u
+pub all_sized : (u : Forms) → size (all_of (points_of u)) ≡ lines_in (count_of u) u
 all_sized NoTrees = refl
 all_sized (Tree k q u more) = omega (arith, all_sized more, size-joined (table k q (points_of u)) (all_of (points_of more)))
 

@@ -25,13 +25,25 @@ use lisp_program::form::{CoreKind, FormNode};
 
 /// Where a clause goes on, and the place of its `handler-case`.
 #[derive(Clone, Copy)]
-struct Onward {
-    to: u32,
-    place: Place,
+pub(crate) struct Onward {
+    pub(crate) to: u32,
+    pub(crate) place: Place,
+}
+
+impl Onward {
+    /// None: the way of a form that is no clause.
+    pub(crate) fn none() -> Self
+        ensures { result ≡ record { to = 0; place = 0 } }
+    {
+        Onward {
+            to: 0,
+            place: Place(0),
+        }
+    }
 }
 
 /// How many lines the next form has, as far as they are counted.
-fn lines_of(nodes: &[FormNode], extents: &[Extent], at: usize) -> u32
+pub(crate) fn lines_of(nodes: &[FormNode], extents: &[Extent], at: usize) -> u32
     requires { extents.now ≡ extents_of nodes.now }
     ensures lines { result ≡ min (size (plan.first (forms_of (drop at nodes.now)))) MOST }
     ensures few { result ≤ MOST }
@@ -56,7 +68,7 @@ fn part_lines(nodes: &[FormNode], extents: &[Extent], at: usize, there: usize) -
 }
 
 /// The node after the next form.
-fn next_of(nodes: &[FormNode], extents: &[Extent], at: usize) -> usize
+pub(crate) fn next_of(nodes: &[FormNode], extents: &[Extent], at: usize) -> usize
     requires known { extents.now ≡ extents_of nodes.now }
     requires inside { at ≤ length nodes.now }
     ensures forms { forms_of (drop result nodes.now) ≡ plan.others (forms_of (drop at nodes.now)) }
@@ -126,7 +138,7 @@ fn second_of(
 }
 
 /// Passes over so many forms, and says at which node those that are left begin.
-fn skip(nodes: &[FormNode], extents: &[Extent], at: usize, forms: usize) -> usize
+pub(crate) fn skip(nodes: &[FormNode], extents: &[Extent], at: usize, forms: usize) -> usize
     requires known { extents.now ≡ extents_of nodes.now }
     requires inside { at ≤ length nodes.now }
     ensures { (names : List NameOf) → (tasks : List TaskOf) → (lines : List Placed) → Stepped names nodes.now (TaskOf.Skip forms) tasks at lines tasks lines result }
@@ -136,7 +148,7 @@ fn skip(nodes: &[FormNode], extents: &[Extent], at: usize, forms: usize) -> usiz
 }
 
 /// Takes up a part.
-fn take_part(
+pub(crate) fn take_part(
     names: &Names,
     there: usize,
     place: Place,
@@ -150,7 +162,7 @@ fn take_part(
 }
 
 /// Takes up a body.
-fn take_body(
+pub(crate) fn take_body(
     names: &Names,
     forms: usize,
     place: Place,
@@ -164,7 +176,12 @@ fn take_body(
 }
 
 /// Takes up forms in turn.
-fn take_all(names: &Names, forms: usize, hold: Hold, tasks: &mut Tasks) -> Result<(), Memory>
+pub(crate) fn take_all(
+    names: &Names,
+    forms: usize,
+    hold: Hold,
+    tasks: &mut Tasks,
+) -> Result<(), Memory>
     ensures { (nodes : List Node) → (at : ℕ) → (lines : List Placed) → at ≤ length nodes → OnOk result (Stepped names.now nodes (TaskOf.All forms hold) tasks.old at lines tasks.new lines at) }
 {
     push_all(forms, hold, tasks)?;
@@ -172,7 +189,7 @@ fn take_all(names: &Names, forms: usize, hold: Hold, tasks: &mut Tasks) -> Resul
 }
 
 /// Takes up operands.
-fn take_operands(
+pub(crate) fn take_operands(
     names: &Names,
     wanted: usize,
     there: usize,
@@ -187,7 +204,7 @@ fn take_operands(
 }
 
 /// Takes up clauses.
-fn take_clauses(
+pub(crate) fn take_clauses(
     names: &Names,
     forms: usize,
     to: u32,
@@ -209,7 +226,7 @@ fn is_clause(kind: &CoreKind) -> bool
 }
 
 /// The site of a node with this extent. It begins at `start`, and goes along this way if it is a clause.
-fn site_of(
+pub(crate) fn site_of(
     node: &FormNode,
     extent: Extent,
     start: u32,
@@ -236,7 +253,7 @@ fn site_of(
 }
 
 /// Takes up the next form, which has no line with clauses. It goes along this way if it is a clause.
-fn take_light(
+pub(crate) fn take_light(
     names: &Names,
     nodes: &[FormNode],
     extents: &[Extent],

@@ -1,6 +1,7 @@
 //! Compiles programs: their points, laid out as code.
 #![tactic(auto)]
 
+mod clauses;
 mod control;
 pub mod extent;
 mod held;
@@ -19,6 +20,7 @@ mod service;
 mod sheet;
 pub mod site;
 mod sizes;
+mod step;
 pub mod task;
 pub mod tasks;
 mod unbuilt;

@@ -12,6 +12,7 @@ use std::collections::BTreeMap;
 use std::marker::Model;
 
 /// The names of functions in order, and the number of each symbol that is one of them. Contracts see the names.
+#[derive(Drop)]
 pub struct Names {
     names: Vec<FunctionName>,
     seats: BTreeMap<u32, u32>,
