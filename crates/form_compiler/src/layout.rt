@@ -176,7 +176,12 @@ pub(crate) fn take_body(
 }
 
 /// Takes up forms in turn.
-pub(crate) fn take_all(names: &Names, forms: usize, hold: Hold, tasks: &mut Tasks) -> Result<(), Memory>
+pub(crate) fn take_all(
+    names: &Names,
+    forms: usize,
+    hold: Hold,
+    tasks: &mut Tasks,
+) -> Result<(), Memory>
     ensures { (nodes : List Node) → (at : ℕ) → (lines : List Placed) → at ≤ length nodes → OnOk result (Stepped names.now nodes (TaskOf.All forms hold) tasks.old at lines tasks.new lines at) }
 {
     push_all(forms, hold, tasks)?;

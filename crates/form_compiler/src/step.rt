@@ -15,9 +15,9 @@ ghost use Rattle.form_compiler.specs.inside.Steps.{AreReady, Stepped, most_lines
 ghost use Rattle.form_compiler.specs.inside.Tasks as plan;
 
 use crate::clauses::clauses_from;
+use crate::control::push_handling;
 use crate::extent::Extent;
 use crate::hold::Hold;
-use crate::control::push_handling;
 use crate::layout::{
     Onward, lines_of, next_of, site_of, skip, take_all, take_body, take_clauses, take_light,
     take_operands, take_part,
