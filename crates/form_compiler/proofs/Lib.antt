@@ -24,3 +24,5 @@ pub mod Sounding
 pub mod Whole
 pub mod Heights
 pub mod Lined
+pub mod Programs
+pub mod Compiled

@@ -89,7 +89,7 @@ functions-length names at (s ∷ ss) = ap suc (functions-length names (suc (past
 more-held : (k n m : ℕ) → n ≤ m → max k n ≤ max k m
 more-held k n m l = omega (arith, l)
 
-held-same : (names : List FunctionName) (way way' : Way) (h : Holding) (at at' : ℕ) (points : Points) (next next' : List Placed)
+pub held-same : (names : List FunctionName) (way way' : Way) (h : Holding) (at at' : ℕ) (points : Points) (next next' : List Placed)
     → most_held next ≤ most_held next' → most_held (laid names way h at points next) ≤ most_held (laid names way' h at' points next')
 held-same names way way' h at at' Done next next' l = l
 held-same names way way' h at at' (Do a p after) next next' l =

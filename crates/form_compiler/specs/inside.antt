@@ -13,3 +13,4 @@ pub mod Fits
 pub mod Sound
 pub mod Sheets
 pub mod Seconds
+pub mod Programs
