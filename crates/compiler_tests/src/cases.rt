@@ -33,7 +33,7 @@ fn count_of(line: &str) -> Result<usize, Fail> {
 }
 
 /// Compiles a program, and compares the outcome.
-fn check_case(
+pub fn check_case(
     rt: &impl Abort,
     alloc: Global,
     program: &str,

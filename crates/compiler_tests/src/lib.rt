@@ -11,3 +11,5 @@ mod other_forms;
 mod run_forms;
 #[cfg(test)]
 mod sizes;
+#[cfg(test)]
+mod whole_code;
