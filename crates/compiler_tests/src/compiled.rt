@@ -1,6 +1,5 @@
 //! What programs are compiled to, as text.
 use form_compiler::compile::{code_of, compile};
-use lisp_base::id::Place;
 use lisp_base::refusal::Rejection;
 use lisp_code::code::{Code, FunctionCode};
 use lisp_code::instr::Clause;
@@ -97,8 +96,9 @@ fn push_instrs(printed: &mut String, code: &Code) -> Result<(), AllocError> {
     let mut places = code.places().iter();
     let mut heights = code.heights().iter();
     for (at, instr) in code.instrs().iter().enumerate() {
-        if let (Some(Place(place)), Some(height)) = (places.next(), heights.next()) {
-            write!(printed, "{at} {place} {height} ")?;
+        if let (Some(place), Some(height)) = (places.next(), heights.next()) {
+            let offset = place.0;
+            write!(printed, "{at} {offset} {height} ")?;
         }
         writeln!(printed, "{instr:?}")?;
     }

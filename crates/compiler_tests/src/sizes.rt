@@ -8,19 +8,33 @@ fn code_has_65536_instructions_at_most(rt: HostRuntime) -> Result<(), Fail> {
     check(
         &rt,
         rt.alloc(),
-        r#"cases: 19
+        r#"cases: 12
 -- in main
 ‹32767×1 › => 65536
 ‹32766×1 ›(print 1) => CodeTooLong at 0
 (progn ‹32767×1 ›) => 65536
-‹500000×1 › => CodeTooLong at 0
+‹100000×1 › => CodeTooLong at 0
 -- in functions
 (defun f () ‹32766×1 ›) => 65536
 (defun f () ‹32765×1 ›(print 1)) => CodeTooLong at 0
 ‹16000×1 ›(defun f () ‹16766×1 ›) => 65536
 1 (defun f () ‹16000×1 ›) (defun g () ‹16000×1 ›) (defun h () ‹16000×1 ›) => CodeTooLong at 0
 ‹1024×(defun f№ ())› => 4098
--- forms of many parts
+-- before the values are counted
+(or ‹9000×1 ›) => HeightTooLarge at 0
+‹33000×1 ›‹128×(+ 1 ›1‹128×)› => CodeTooLong at 0
+1 (defun f () ‹128×(+ 1 ›1‹128×)› ‹33000×1 ›) => CodeTooLong at 0
+"#,
+        Told::Compiled,
+    )
+}
+
+#[test]
+fn forms_have_many_parts(rt: HostRuntime) -> Result<(), Fail> {
+    check(
+        &rt,
+        rt.alloc(),
+        r#"cases: 7
 (and ‹16000×1 ›) => 64000
 (and ‹16384×1 ›) => 65536
 (and ‹16385×1 ›) => CodeTooLong at 0
@@ -28,10 +42,6 @@ fn code_has_65536_instructions_at_most(rt: HostRuntime) -> Result<(), Fail> {
 (cond ‹10000×(1 2) ›) => 40004
 (cond ‹20000×(1 2) ›) => CodeTooLong at 0
 (or ‹20000×1 ›) => CodeTooLong at 0
--- before the values are counted
-(or ‹9000×1 ›) => HeightTooLarge at 0
-‹33000×1 ›‹128×(+ 1 ›1‹128×)› => CodeTooLong at 0
-1 (defun f () ‹128×(+ 1 ›1‹128×)› ‹33000×1 ›) => CodeTooLong at 0
 "#,
         Told::Compiled,
     )
