@@ -1,5 +1,5 @@
 -- Where the clauses of a handler begin is written down one after the other.
-use Rattle.std.proofs.Common.{◌≡◌, ◌≤◌, ◌<◌, ℕ, zero, suc, ◌+◌, ◌-◌, min, List, [], ◌∷◌, ◌++◌, length, drop, get_or, refl, ap, sym, ◌∙◌, arith, append-nil, subst}
+use Rattle.std.proofs.Common.{◌≡◌, ◌≤◌, ◌<◌, ℕ, zero, suc, ◌+◌, min, List, [], ◌∷◌, ◌++◌, length, drop, get_or, refl, ap, sym, ◌∙◌, arith, append-nil, subst}
 use Rattle.lisp_base.specs.Forest.{NoTrees, Tree, behind, count_of, front}
 use Rattle.lisp_program.specs.WellMade.{Guarded}
 use Rattle.lisp_program.specs.declared.form.CoreKind.TheVariants as k

@@ -1,5 +1,5 @@
 -- The code of a program is made of what is laid out.
-use Rattle.std.proofs.Common.{◌≡◌, ◌≤◌, ◌<◌, ◌^◌, ℕ, zero, suc, ◌+◌, max, min, List, [], ◌∷◌, ◌++◌, if◌then◌else◌, Option, Some, None, map, length, drop, get_or, refl, ap, sym, subst, ◌∙◌, arith, append-nil}
+use Rattle.std.proofs.Common.{◌≡◌, ◌≤◌, ◌<◌, ◌^◌, ℕ, ◌+◌, min, List, [], ◌∷◌, ◌++◌, if◌then◌else◌, Some, None, map, length, drop, get_or, ap, sym, subst, ◌∙◌, arith, append-nil}
 use Rattle.std.proofs.lemmas.List.{drop_all}
 use Rattle.lisp_base.specs.declared.id.FunctionName.{FunctionName}
 use Rattle.lisp_base.specs.declared.refusal.Refusal.TheVariants.{CodeTooLong, HeightTooLarge}
@@ -11,9 +11,9 @@ use Rattle.lisp_code.specs.Lines.{Placed}
 use Rattle.lisp_code.specs.Parts.{Parts, line_of}
 use Rattle.lisp_code.specs.Validity.{IsValid}
 use Rattle.lisp_code.specs.declared.code.FunctionCode.{FunctionCode}
-use Rattle.form_compiler.specs.Refusals.{IsRefusalOf, at, height_refused, most_instructions, most_values, refused_at, size_refusal}
+use Rattle.form_compiler.specs.Refusals.{IsRefusalOf, at, most_instructions, most_values, refused_at, size_refusal}
 use Rattle.form_compiler.specs.inside.Extents.{MOST}
-use Rattle.form_compiler.specs.inside.Lengths.{body_size, functions_size, program_size}
+use Rattle.form_compiler.specs.inside.Lengths.{functions_size, program_size}
 use Rattle.form_compiler.specs.inside.Programs.{Added, BodiesAreLayable, Laying, functions_refusal, height_refusal, stretches_from}
 use Rattle.form_compiler.specs.inside.Sound.{RowsAreThere}
 use Rattle.form_compiler.specs.inside.Steps.{most_lines}

@@ -1,32 +1,31 @@
 -- The lines of programs, one function after the other.
-use Rattle.std.proofs.Common.{◌≡◌, ◌≤◌, ◌<◌, ◌^◌, ℕ, zero, suc, ◌+◌, max, min, List, [], ◌∷◌, ◌++◌, Bool, true, false, if◌then◌else◌, nat_lt, Option, Some, None, map, length, drop, refl, ap, sym, subst, ◌∙◌, arith, append-nil, append_assoc, length-append, drop-cons, add-one, get_or, Result, Ok, Err, IfErr, IsErrAnd}
+use Rattle.std.proofs.Common.{◌≡◌, ◌≤◌, ◌<◌, ℕ, suc, ◌+◌, max, List, [], ◌∷◌, ◌++◌, true, false, if◌then◌else◌, nat_lt, Some, None, map, length, drop, refl, ap, sym, subst, ◌∙◌, arith, append_assoc, length-append, drop-cons, add-one, get_or, Result, Ok, Err, IfErr, IsErrAnd}
 use Rattle.std.proofs.lemmas.Bool.Decides.{nat_tests}
 use Rattle.std.proofs.Math.Seq.{drop-append_seam}
 use Rattle.lisp_base.specs.declared.id.FunctionName.{FunctionName}
-use Rattle.lisp_base.specs.declared.refusal.Refusal.TheVariants.{CodeTooLong, HeightTooLarge}
+use Rattle.lisp_base.specs.declared.refusal.Refusal.TheVariants.{HeightTooLarge}
 use Rattle.lisp_base.specs.declared.refusal.Rejection.{Rejection}
 use Rattle.lisp_program.specs.Forms.{Forms, forms_of}
 use Rattle.lisp_program.specs.Program.{FlatFunction, FlatProgram, Program, function_of, program_of}
-use Rattle.lisp_program.specs.WellMade.{AreMade, BodiesAreMade, Each, IsWellMade}
+use Rattle.lisp_program.specs.WellMade.{AreMade, BodiesAreMade, Each}
 use Rattle.lisp_program.specs.declared.form.CoreKind.TheVariants as k
 use Rattle.form_points.specs.Points.{Points, Done, Do, Ask, Test, Choose, Loop, Turn, Enter, Protect, Handle, When, body_of}
 use Rattle.form_points.specs.Table.{main_points, points_of}
 use Rattle.form_points.specs.declared.act.Question.TheVariants as question
-use Rattle.lisp_code.specs.CodeOf.{IsCodeOf, Stretch, begun, functions_from, height_of, lines_from, main_lines, most_held, names_of, program_lines, stretch_lines, stretches_of}
-use Rattle.lisp_code.specs.Held.{Holding, after_act, after_question, held_at, held_by, held_in, inside, one_more, outside, rise, total, without}
+use Rattle.lisp_code.specs.CodeOf.{Stretch, begun, functions_from, height_of, lines_from, main_lines, most_held, names_of, program_lines, stretch_lines, stretches_of}
+use Rattle.lisp_code.specs.Held.{Holding, after_act, after_question, held_at, held_by, held_in, inside, one_more, outside, total, without}
 use Rattle.form_points.specs.declared.act.Act.TheVariants.{Discard}
 use Rattle.lisp_code.specs.Lines.{Does, Asks, Tests, Branches, LoopTests, JumpsTo, Enters, EntersProtect, EntersHandler, Leaves, LeavesProtect, LeavesCleanup, LeavesHandler, Placed, Way, act_line, clauses_at, given, laid, no_way, past, placed, size}
 use Rattle.lisp_code.specs.declared.code.FunctionCode.{FunctionCode}
 use Rattle.lisp_program.specs.declared.form.FormNode.{FormNode}
 use Rattle.form_compiler.specs.declared.mark.Mark.{Mark}
-use Rattle.form_compiler.specs.Refusals.{IsRefusalOf, at, height_refused, most_instructions, most_values, refused_at, size_refusal, too_high}
-use Rattle.form_compiler.specs.inside.Lengths.{functions_size, program_size}
+use Rattle.form_compiler.specs.Refusals.{IsRefusalOf, at, most_values, refused_at, too_high}
 use Rattle.form_compiler.specs.inside.Marks.{ask_mark, placed_of}
-use Rattle.form_compiler.specs.inside.Programs.{Added, AreLayable, BodiesAreLayable, Laying, code_at, functions_in, functions_refusal, height_refusal, stretches_from}
+use Rattle.form_compiler.specs.inside.Programs.{Added, AreLayable, BodiesAreLayable, Laying, functions_refusal}
 use Rattle.form_compiler.specs.inside.Steps.{most_lines}
 use Rattle.form_compiler.proofs.Gives.{kind-gives, made-gives}
 use Rattle.form_compiler.proofs.Joined.{laid-joined}
-use Rattle.form_compiler.proofs.Longs.{laid_long, program_long, size_joined}
+use Rattle.form_compiler.proofs.Longs.{laid_long, size_joined}
 use Rattle.form_compiler.proofs.Steps.{made-ready, past-size}
 use Rattle.form_compiler.proofs.Whole.{held-same}
 

@@ -20,10 +20,12 @@ use crate::unbuilt::unbuilt;
 use form_points::act::{Act, Question};
 use lisp_base::id::{FunctionName, Place, SymbolId};
 use lisp_base::memory::Memory;
-use lisp_base::refusal::{Refusal, Rejection};
-use lisp_code::code::{Code, FunctionCode};
+pub use lisp_base::refusal::{Refusal, Rejection};
+pub use lisp_code::code::Code;
+use lisp_code::code::FunctionCode;
 use lisp_code::instr::Instr;
-use lisp_program::form::{FunctionForm, Program};
+use lisp_program::form::FunctionForm;
+pub use lisp_program::form::Program;
 use std::alloc::Global;
 
 /// No code has more instructions.

@@ -6,7 +6,7 @@ ghost use Rattle.lisp_code.specs.declared.instr.Instr.TheVariants.{Leave};
 
 use crate::instr::{Clause, Instr};
 use crate::valid::{is_valid, row_at};
-use lisp_base::id::{FunctionName, Place, SymbolId};
+pub use lisp_base::id::{FunctionName, Place, SymbolId};
 use std::marker::Model;
 
 /// A function in code: its name, the place of its form, its first position, how many parameters it has, and how many values one of

@@ -1,5 +1,5 @@
-use form_points::act::{Act, Opening, Question};
-use lisp_base::condition::Class;
+pub use form_points::act::{Act, Opening, Question};
+pub use lisp_base::condition::Class;
 
 /// An instruction: one point of a form, or the end of a frame, but for `Jump`, which is no point. A position is the number of an
 /// instruction in its code, from 0.

@@ -5,11 +5,11 @@ ghost use Rattle.lisp_prims.specs.Applied.{applied, counted};
 
 use crate::arguments::truth;
 use crate::{comparisons as compare, numbers};
-use lisp_base::condition::Class;
+pub use lisp_base::condition::Class;
 use lisp_base::id::ThreadId;
 use lisp_base::value::{Node, Value};
-use lisp_base::word::Word;
-use lisp_program::function::Primitive;
+pub use lisp_base::word::Word;
+pub use lisp_program::function::Primitive;
 
 /// What a function gives for these arguments, or the class of the condition that it signals. A function among them counts
 /// as NIL, as does an argument that is missing, and others are not looked at.

@@ -1,4 +1,4 @@
-use Rattle.std.proofs.Common.{◌≡◌, ◌≤◌, ◌<◌, ◌∷◌, refl, ap, subst, ◌∙◌}
+use Rattle.std.proofs.Common.{◌<◌, ◌∷◌, ap, subst, ◌∙◌}
 use Rattle.lisp_base.specs.declared.refusal.Refusal.TheVariants.{HeightTooLarge}
 use Rattle.lisp_program.specs.Program.{function_of}
 use Rattle.lisp_code.specs.CodeOf.{stretch_of}

@@ -1,4 +1,4 @@
-use Rattle.std.proofs.Common.{◌+◌, ◌≤◌, ◌<◌, ℕ, arith, drop}
+use Rattle.std.proofs.Common.{◌+◌, drop}
 use Rattle.lisp_program.specs.Program.{function_of, program_of}
 use Rattle.lisp_code.specs.CodeOf.{aborting, stretch_of, stretches_of}
 use Rattle.form_compiler.specs.Refusals.{IsRefusalOf}

@@ -1,6 +1,5 @@
-use Rattle.std.proofs.Common.{◌≡◌, drop}
+use Rattle.std.proofs.Common.{drop}
 use Rattle.lisp_program.specs.Program.{program_of}
-use Rattle.lisp_code.specs.CodeOf.{names_of, stretches_of}
 use Rattle.form_compiler.specs.inside.Programs.{BodiesAreLayable, Laying, stretches_from}
 use Rattle.form_compiler.proofs.compile.add_functions.Given as goal
 

@@ -1,5 +1,4 @@
 use Rattle.std.proofs.Common.{◌≡◌, IfErr, IfOk, None, subst, sym}
-use Rattle.lisp_program.specs.Program.{program_of}
 use Rattle.form_compiler.specs.Refusals.{IsRefusalOf}
 use Rattle.form_compiler.proofs.Compiled.{by_height, short_enough, too_long}
 use Rattle.form_compiler.proofs.compile.code_of.Goals as goal

@@ -1,10 +1,6 @@
-use Rattle.std.proofs.Common.{◌≡◌, ◌+◌, suc, arith, drop, get_or, length, refl, sym, ap, ◌∙◌}
+use Rattle.std.proofs.Common.{◌+◌, arith, drop, get_or, refl, ap, ◌∙◌}
 use Rattle.lisp_program.specs.Forms.{forms_of}
 use Rattle.lisp_program.specs.declared.form.FormNode.{FormNode}
-use Rattle.lisp_code.specs.Lines.{past, size}
-use Rattle.form_compiler.specs.declared.extent.Extent.{Extent}
-use Rattle.form_compiler.specs.inside.Extents.{extent_of}
-use Rattle.form_compiler.specs.inside.Tasks.{first, less, others, starts}
 use Rattle.form_compiler.proofs.Begun.{Handled, handled}
 use Rattle.form_compiler.proofs.Known.{few_under, nothing, same_length}
 use Rattle.form_compiler.proofs.Opened.{handler_sited}
