@@ -5,7 +5,7 @@ use Rattle.std.specs.Prelude.{unwrap_or}
 use Rattle.lisp_base.specs.Value.{nil}
 use Rattle.lisp_base.specs.declared.value.Node.{Node}
 use Rattle.binding_stack.specs.Stack.{Bound, kept}
-use Rattle.thread_semantics.specs.Acts.{top}
+use Rattle.plain_threads.specs.Acts.{top}
 use Rattle.form_evaluator.proofs.Advances.{drop-one_more}
 
 below : (m n : ℕ) → m < n → nat_lt m n ≡ true

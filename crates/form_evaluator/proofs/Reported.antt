@@ -2,13 +2,13 @@
 use Rattle.std.proofs.Common.{◌≡◌, ℕ, List, [], ◌∷◌, map, refl, ap, sym, ◌∙◌}
 use Rattle.lisp_base.specs.Value.{nil}
 use Rattle.plain_program.specs.Program.{PlainProgram}
-use Rattle.thread_semantics.specs.State.{FrameKind, BindFrame, Frame, ThreadState}
-use Rattle.run_semantics.specs.declared.report.FrameWord.TheVariants.{Bind}
-use Rattle.run_semantics.specs.declared.report.OpenForm.{OpenForm}
-use Rattle.run_semantics.specs.declared.report.PhaseReport.{PhaseReport}
-use Rattle.run_semantics.specs.Replay.{Configuration, all_closed}
-use Rattle.run_semantics.specs.Report.{word_for, open_forms, phase_shown, thread_lines, status_of, report_of}
-use Rattle.run_semantics.specs.Run.{RunsAs}
+use Rattle.plain_threads.specs.State.{FrameKind, BindFrame, Frame, ThreadState}
+use Rattle.plain_runs.specs.declared.report.FrameWord.TheVariants.{Bind}
+use Rattle.plain_runs.specs.declared.report.OpenForm.{OpenForm}
+use Rattle.plain_runs.specs.declared.report.PhaseReport.{PhaseReport}
+use Rattle.plain_runs.specs.Replay.{Configuration, all_closed}
+use Rattle.plain_runs.specs.Report.{word_for, open_forms, phase_shown, thread_lines, status_of, report_of}
+use Rattle.plain_runs.specs.Run.{RunsAs}
 use Rattle.form_evaluator.specs.declared.run.Run.{Run}
 use Rattle.form_evaluator.specs.inside.Evaluator.{Stands, shown_frame}
 use Rattle.form_evaluator.specs.inside.Running.{Stops, shown_forms}

@@ -19,9 +19,9 @@ use Rattle.world_semantics.specs.declared.op.Reply.TheVariants.{Okay, Value, Unb
 use Rattle.plain_program.specs.declared.steps.Step.TheVariants.{Leave as LeaveStep}
 use Rattle.plain_program.specs.inside.Steps.{steps_of}
 use Rattle.plain_program.proofs.Joined.{steps_of-joined}
-use Rattle.thread_semantics.specs.Acts.{top, result_of}
-use Rattle.thread_semantics.specs.State.{FrameKind, BindFrame, Frame, Base, Control, At, Exit, Ended, ThreadState}
-use Rattle.thread_semantics.specs.Step.{next_of, local_step_of, after_reply, acted, ask_step, enter_step, leave_step, pop_step, put_back, has_room, unless_bound, asked, question_reply, read_reply, test_reply}
+use Rattle.plain_threads.specs.Acts.{top, result_of}
+use Rattle.plain_threads.specs.State.{FrameKind, BindFrame, Frame, Base, Control, At, Exit, Ended, ThreadState}
+use Rattle.plain_threads.specs.Step.{next_of, local_step_of, after_reply, acted, ask_step, enter_step, leave_step, pop_step, put_back, has_room, unless_bound, asked, question_reply, read_reply, test_reply}
 use Rattle.form_evaluator.specs.declared.evaluator.Evaluator.{Evaluator}
 use Rattle.form_evaluator.specs.inside.Evaluator.{shown_of, shown_frame, shown_binding, waiting_steps, held_map, Nested, Stands}
 use Rattle.form_evaluator.specs.inside.Moves.{next_shown, asked_of, local_after, reply_after, shown_after, asked_after, read_at, written_at, opened_in, room_in, question_reply_after, read_reply_after, test_reply_after}

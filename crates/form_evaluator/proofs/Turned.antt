@@ -20,14 +20,14 @@ use Rattle.world_semantics.specs.declared.phase.Phase.TheVariants.{Alive, Ended 
 use Rattle.world_semantics.specs.World.{World, first_world}
 use Rattle.world_semantics.specs.declared.phase.Ending.{Ending}
 use Rattle.world_semantics.specs.Effect.{phases_after, effect_of, reply_of, world_after}
-use Rattle.thread_semantics.specs.Acts.{top, result_of}
-use Rattle.thread_semantics.specs.State.{Control, At, Exit, Ended, FrameKind, BindFrame, Frame, ThreadState, first_state}
-use Rattle.thread_semantics.specs.Step.{acted, ask_step, enter_step, leave_step, pop_step, put_back, has_room, step_by, read_reply, question_reply, test_reply, reply_by as reply_step, local_step_of, next_of, after_reply, going_on, advanced, closed}
-use Rattle.thread_semantics.specs.declared.next.Next.TheVariants.{Local, Operation, Nothing}
-use Rattle.run_semantics.specs.Replay.{Configuration, IsLegalBy, AreLegal, MayDo, first_configuration, after_entry, after_entries}
+use Rattle.plain_threads.specs.Acts.{top, result_of}
+use Rattle.plain_threads.specs.State.{Control, At, Exit, Ended, FrameKind, BindFrame, Frame, ThreadState, first_state}
+use Rattle.plain_threads.specs.Step.{acted, ask_step, enter_step, leave_step, pop_step, put_back, has_room, step_by, read_reply, question_reply, test_reply, reply_by as reply_step, local_step_of, next_of, after_reply, going_on, advanced, closed}
+use Rattle.plain_threads.specs.declared.next.Next.TheVariants.{Local, Operation, Nothing}
+use Rattle.plain_runs.specs.Replay.{Configuration, IsLegalBy, AreLegal, MayDo, first_configuration, after_entry, after_entries}
 use Rattle.form_evaluator.specs.declared.evaluator.Evaluator.{Evaluator}
 use Rattle.form_evaluator.specs.declared.run.Run.{Run}
-use Rattle.run_semantics.specs.Over.{goes_on}
+use Rattle.plain_runs.specs.Over.{goes_on}
 use Rattle.plain_program.specs.inside.Steps.{steps_of}
 use Rattle.world_semantics.specs.declared.global.Global.{Global}
 use Rattle.world_semantics.specs.World.{unbound_all}

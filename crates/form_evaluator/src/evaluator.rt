@@ -4,9 +4,9 @@ ghost use Rattle.form_evaluator.specs.inside.Evaluator.{Stands};
 ghost use Rattle.form_evaluator.specs.inside.Moves.{shown_after, signalled, ended_now, asked_after, read_at, written_at, bound_at, opened_in, left_frame, popped_frame, unbound_to, room_in, next_shown, asked_of, local_after, counted, question_reply_after, test_reply_after, reply_after};
 ghost use Rattle.lisp_base.specs.Value.{nil};
 ghost use Rattle.lisp_base.specs.declared.condition.Class.{Class};
-ghost use Rattle.thread_semantics.specs.State.{ThreadState};
-ghost use Rattle.thread_semantics.specs.Acts.{top, sum_of, result_of};
-ghost use Rattle.thread_semantics.specs.Step.{next_of, local_step_of, after_reply};
+ghost use Rattle.plain_threads.specs.State.{ThreadState};
+ghost use Rattle.plain_threads.specs.Acts.{top, sum_of, result_of};
+ghost use Rattle.plain_threads.specs.Step.{next_of, local_step_of, after_reply};
 
 use crate::ahead::Ahead;
 use crate::stack::Stack;
@@ -20,7 +20,7 @@ use plain_program::act::{Act, Opening, Question};
 use plain_program::steps::Step;
 use std::alloc::Global;
 use std::mem;
-use thread_semantics::next::Next;
+use plain_threads::next::Next;
 use world_semantics::op::{Op, Printed, Reply};
 use world_semantics::phase::Ending;
 

@@ -1,8 +1,8 @@
 ghost use Rattle.std.specs.Prelude.{◌≡◌, ◌+◌, ◌^◌, ◌<◌, drop, OnOk};
 ghost use Rattle.form_evaluator.specs.inside.Evaluator.{Stands};
 ghost use Rattle.form_evaluator.specs.inside.Moves.{asked_of, next_shown, counted, local_after, question_reply_after, read_reply_after, test_reply_after, reply_after};
-ghost use Rattle.thread_semantics.specs.State.{ThreadState};
-ghost use Rattle.thread_semantics.specs.Step.{next_of, local_step_of, after_reply};
+ghost use Rattle.plain_threads.specs.State.{ThreadState};
+ghost use Rattle.plain_threads.specs.Step.{next_of, local_step_of, after_reply};
 
 use crate::evaluator::{Doing, Evaluator};
 use lisp_base::condition::Class;
@@ -12,7 +12,7 @@ use lisp_base::value::{Node, Value};
 use plain_program::act::Question;
 use plain_program::steps::Step;
 use std::alloc::Global;
-use thread_semantics::next::Next;
+use plain_threads::next::Next;
 use world_semantics::op::{Op, Printed, Reply};
 use world_semantics::phase::Ending;
 

@@ -1,10 +1,10 @@
 ghost use Rattle.std.specs.Prelude.{◌≡◌, ℕ, suc, ◌+◌, ◌<◌, ◌^◌, [], ◌∷◌, length, IfOk, OnOk};
 ghost use Rattle.plain_program.specs.Program.{PlainProgram as Whole};
 ghost use Rattle.plain_program.specs.Forms.{forms_of};
-ghost use Rattle.run_semantics.specs.Run.{RunsAs};
-ghost use Rattle.run_semantics.specs.Report.{unless_out, status_of, phase_shown};
+ghost use Rattle.plain_runs.specs.Run.{RunsAs};
+ghost use Rattle.plain_runs.specs.Report.{unless_out, status_of, phase_shown};
 ghost use Rattle.world_semantics.specs.World.{unbound_all};
-ghost use Rattle.thread_semantics.specs.State.{ThreadState};
+ghost use Rattle.plain_threads.specs.State.{ThreadState};
 ghost use Rattle.form_evaluator.specs.inside.Evaluator.{Stands};
 ghost use Rattle.form_evaluator.specs.inside.Running.{Ran, Stops, Goes, AsksFor, phase_by, globals_by, reply_by, shown_forms};
 
@@ -17,9 +17,9 @@ use lisp_base::sequence::Sequence;
 use lisp_base::value::Value;
 use plain_program::flatten::main_steps;
 use plain_program::form::PlainNode;
-use run_semantics::report::{FrameWord, OpenForm, PhaseReport, Report, ThreadLine, ThreadReport};
+use plain_runs::report::{FrameWord, OpenForm, PhaseReport, Report, ThreadLine, ThreadReport};
 use std::alloc::Global;
-use thread_semantics::next::Next;
+use plain_threads::next::Next;
 use world_semantics::entry::Entry;
 use world_semantics::global::Global as SpecialVariable;
 use world_semantics::op::{Op, Reply};

@@ -1,8 +1,8 @@
 -- Lines of a report that are written.
 use Rattle.std.proofs.Common.{◌≡◌, ℕ, suc, ◌+◌, ◌<◌, List, [], ◌∷◌, ◌++◌, Bool, true, Option, length, length-append, append_assoc, add-one, refl, ap, sym, subst, ◌∙◌, arith}
 use Rattle.lisp_base.specs.Writing.{Wrote}
-use Rattle.run_semantics.specs.declared.report.OpenForm.{OpenForm}
-use Rattle.run_semantics.specs.declared.report.ThreadLine.{ThreadLine}
+use Rattle.plain_runs.specs.declared.report.OpenForm.{OpenForm}
+use Rattle.plain_runs.specs.declared.report.ThreadLine.{ThreadLine}
 use Rattle.world_semantics.specs.declared.global.Global.{Global}
 use Rattle.lisp_journal.specs.Lines.{WroteLine}
 use Rattle.lisp_journal.specs.Report.{line_text, lines_left, report_left}

@@ -5,15 +5,15 @@ use Rattle.lisp_base.specs.declared.value.Node.{Node}
 use Rattle.lisp_base.specs.declared.value.Node.TheVariants.{Symbol}
 use Rattle.world_semantics.specs.declared.phase.Phase.{Phase}
 use Rattle.world_semantics.specs.declared.phase.Phase.TheVariants.{Alive, Ended}
-use Rattle.run_semantics.specs.declared.report.PhaseReport.{PhaseReport}
-use Rattle.run_semantics.specs.declared.report.PhaseReport.TheVariants.{Ended as IsEnded, OutOfPoints, Runnable}
-use Rattle.run_semantics.specs.declared.report.Report.{Report}
-use Rattle.run_semantics.specs.declared.report.ThreadLine.{ThreadLine}
+use Rattle.plain_runs.specs.declared.report.PhaseReport.{PhaseReport}
+use Rattle.plain_runs.specs.declared.report.PhaseReport.TheVariants.{Ended as IsEnded, OutOfPoints, Runnable}
+use Rattle.plain_runs.specs.declared.report.Report.{Report}
+use Rattle.plain_runs.specs.declared.report.ThreadLine.{ThreadLine}
 use Rattle.std.specs.List.{flat_map}
 use Rattle.world_semantics.specs.declared.global.Global.{Global}
-use Rattle.run_semantics.specs.declared.report.FrameWord.{FrameWord}
-use Rattle.run_semantics.specs.declared.report.FrameWord.TheVariants.{Bind}
-use Rattle.run_semantics.specs.declared.report.OpenForm.{OpenForm}
+use Rattle.plain_runs.specs.declared.report.FrameWord.{FrameWord}
+use Rattle.plain_runs.specs.declared.report.FrameWord.TheVariants.{Bind}
+use Rattle.plain_runs.specs.declared.report.OpenForm.{OpenForm}
 use Rattle.lisp_journal.specs.Line.{value_text}
 use Rattle.lisp_journal.specs.Journal.{ending_text}
 

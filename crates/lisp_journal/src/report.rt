@@ -10,7 +10,7 @@ use crate::names::Names;
 use lisp_base::memory::Memory;
 use lisp_base::text_writer::TextWriter;
 use lisp_base::value::Value;
-use run_semantics::report::{FrameWord, OpenForm, PhaseReport, Report, ThreadLine};
+use plain_runs::report::{FrameWord, OpenForm, PhaseReport, Report, ThreadLine};
 use std::alloc::Global;
 use std::marker::Model;
 use world_semantics::global::Global as SpecialVariable;

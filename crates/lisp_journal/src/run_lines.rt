@@ -7,7 +7,7 @@ use crate::lines::Lines;
 use crate::names::Names;
 use crate::report::ReportLines;
 use lisp_base::text_writer::TextWriter;
-use run_semantics::report::Report;
+use plain_runs::report::Report;
 use std::alloc::Global;
 use std::marker::Model;
 use world_semantics::entry::Entry;

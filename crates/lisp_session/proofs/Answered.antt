@@ -3,10 +3,10 @@ use Rattle.std.proofs.Common.{◌≡◌, ℕ, suc, ◌==◌, length, Result, Ok,
 use Rattle.std.proofs.Math.Dec.{eqb-suc-zero}
 use Rattle.lisp_base.specs.declared.memory.Memory.{Memory}
 use Rattle.plain_program.specs.Program.{PlainProgram}
-use Rattle.thread_semantics.specs.State.{ThreadState}
-use Rattle.run_semantics.specs.declared.report.Report.{Report}
-use Rattle.run_semantics.specs.Run.{RunsAs}
-use Rattle.run_semantics.specs.Report.{status_of, has_ended}
+use Rattle.plain_threads.specs.State.{ThreadState}
+use Rattle.plain_runs.specs.declared.report.Report.{Report}
+use Rattle.plain_runs.specs.Run.{RunsAs}
+use Rattle.plain_runs.specs.Report.{status_of, has_ended}
 use Rattle.lisp_reader.specs.Tables.{Tables, tables_of}
 use Rattle.lisp_session.specs.Programs.{IsRefused, NeverBoth, OneRefusal, Reads}
 use Rattle.lisp_journal.specs.Journal.{journal_text}

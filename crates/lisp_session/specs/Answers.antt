@@ -1,7 +1,7 @@
 -- What is answered to words and bytes, before anything is written.
 use Rattle.std.specs.Prelude.{◌≡◌, ℕ, List, ◌++◌, Bool, true, false}
 use Rattle.lisp_base.specs.declared.refusal.Refusal.{Refusal}
-use Rattle.run_semantics.specs.Run.{RunsAs}
+use Rattle.plain_runs.specs.Run.{RunsAs}
 use Rattle.plain_program.specs.Program.{PlainProgram}
 use Rattle.lisp_reader.specs.Tables.{Tables, tables_of}
 use Rattle.lisp_journal.specs.Journal.{journal_text}

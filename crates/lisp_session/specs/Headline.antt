@@ -5,9 +5,9 @@ use Rattle.lisp_base.specs.declared.refusal.Refusal.{Refusal}
 use Rattle.lisp_edge.specs.Faults.{Rose}
 use Rattle.plain_program.specs.Program.{PlainProgram}
 use Rattle.world_semantics.specs.declared.entry.Entry.{Entry}
-use Rattle.run_semantics.specs.Replay.{Configuration, Replays}
-use Rattle.run_semantics.specs.Over.{IsOver}
-use Rattle.run_semantics.specs.Report.{report_of, status_of}
+use Rattle.plain_runs.specs.Replay.{Configuration, Replays}
+use Rattle.plain_runs.specs.Over.{IsOver}
+use Rattle.plain_runs.specs.Report.{report_of, status_of}
 use Rattle.lisp_reader.specs.Reading.{longest}
 use Rattle.lisp_reader.specs.Tables.{Tables}
 use Rattle.lisp_session.specs.Programs.{Reads, IsRefused}

@@ -1,7 +1,7 @@
 ghost use Rattle.std.specs.Prelude.{◌≡◌, ℕ, List, IfOk, true};
 ghost use Rattle.lisp_reader.specs.Tables.{tables_of};
 ghost use Rattle.plain_program.specs.Program.{PlainProgram};
-ghost use Rattle.run_semantics.specs.Run.{RunsAs};
+ghost use Rattle.plain_runs.specs.Run.{RunsAs};
 ghost use Rattle.lisp_session.specs.Headline.{are_accepted, steps};
 ghost use Rattle.lisp_session.specs.Answers.{Answers, LeftBy, Says, answer_status};
 ghost use Rattle.lisp_session.specs.Programs.{Reads};
@@ -14,7 +14,7 @@ use lisp_base::id::Place;
 use lisp_base::memory::Memory;
 use lisp_base::refusal::{Refusal, Rejection};
 use lisp_base::sequence::Sequence;
-use run_semantics::report::Report;
+use plain_runs::report::Report;
 use std::alloc::Global;
 use symbol_table::symbols::Symbols;
 use symbol_table::texts::Texts;

@@ -6,7 +6,7 @@ use Rattle.binding_stack.specs.Stack.{Bound}
 use Rattle.plain_program.specs.declared.steps.Step.{Step}
 use Rattle.plain_program.specs.declared.steps.Step.TheVariants.{Leave}
 use Rattle.plain_program.specs.inside.Steps.{steps_of}
-use Rattle.thread_semantics.specs.State.{FrameKind, BindFrame, Frame, Base, Control, At, Exit, Ended, ThreadState}
+use Rattle.plain_threads.specs.State.{FrameKind, BindFrame, Frame, Base, Control, At, Exit, Ended, ThreadState}
 use Rattle.form_evaluator.specs.declared.evaluator.Doing.{Doing}
 use Rattle.form_evaluator.specs.declared.evaluator.Doing.TheVariants.{Running, Leaving, Over}
 use Rattle.form_evaluator.specs.declared.evaluator.OpenFrame.{OpenFrame}

@@ -19,10 +19,10 @@ use Rattle.world_semantics.specs.declared.phase.Ending.{Ending}
 use Rattle.world_semantics.specs.declared.phase.Ending.TheVariants.{Returned, Aborted}
 use Rattle.plain_program.specs.declared.steps.Step.{Step}
 use Rattle.plain_program.specs.declared.steps.Step.TheVariants.{Act, Ask, Test, Enter, Leave}
-use Rattle.thread_semantics.specs.declared.next.Next.{Next}
-use Rattle.thread_semantics.specs.declared.next.Next.TheVariants.{Local, Operation, Nothing}
-use Rattle.thread_semantics.specs.Acts.{top, result_of}
-use Rattle.thread_semantics.specs.Step.{unless_bound}
+use Rattle.plain_threads.specs.declared.next.Next.{Next}
+use Rattle.plain_threads.specs.declared.next.Next.TheVariants.{Local, Operation, Nothing}
+use Rattle.plain_threads.specs.Acts.{top, result_of}
+use Rattle.plain_threads.specs.Step.{unless_bound}
 use Rattle.form_evaluator.specs.declared.evaluator.Doing.{Doing}
 use Rattle.form_evaluator.specs.declared.evaluator.Doing.TheVariants.{Running, Leaving, Over}
 use Rattle.form_evaluator.specs.declared.evaluator.OpenFrame.{OpenFrame}

@@ -10,13 +10,13 @@ use Rattle.world_semantics.specs.declared.phase.Phase.{Phase}
 use Rattle.world_semantics.specs.declared.phase.Phase.TheVariants.{Alive, Ended}
 use Rattle.world_semantics.specs.World.{World, global_of, with_global}
 use Rattle.world_semantics.specs.Effect.{value_reply}
-use Rattle.thread_semantics.specs.State.{ThreadState}
-use Rattle.thread_semantics.specs.Step.{next_of, closed}
-use Rattle.thread_semantics.specs.declared.next.Next.TheVariants.{Operation}
-use Rattle.run_semantics.specs.declared.report.FrameWord.TheVariants.{Bind}
-use Rattle.run_semantics.specs.declared.report.OpenForm.{OpenForm}
-use Rattle.run_semantics.specs.Replay.{AreLegal, first_configuration, after_entries}
-use Rattle.run_semantics.specs.Over.{can_step}
+use Rattle.plain_threads.specs.State.{ThreadState}
+use Rattle.plain_threads.specs.Step.{next_of, closed}
+use Rattle.plain_threads.specs.declared.next.Next.TheVariants.{Operation}
+use Rattle.plain_runs.specs.declared.report.FrameWord.TheVariants.{Bind}
+use Rattle.plain_runs.specs.declared.report.OpenForm.{OpenForm}
+use Rattle.plain_runs.specs.Replay.{AreLegal, first_configuration, after_entries}
+use Rattle.plain_runs.specs.Over.{can_step}
 use Rattle.form_evaluator.specs.declared.run.Run.{Run}
 use Rattle.form_evaluator.specs.declared.evaluator.OpenFrame.{OpenFrame}
 use Rattle.form_evaluator.specs.declared.evaluator.Evaluator.{Evaluator}

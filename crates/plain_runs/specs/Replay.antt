@@ -6,9 +6,9 @@ use Rattle.plain_program.specs.Program.{PlainProgram}
 use Rattle.world_semantics.specs.declared.entry.Entry.{Entry}
 use Rattle.world_semantics.specs.World.{World, first_world}
 use Rattle.world_semantics.specs.Effect.{effect_of, reply_of, world_after}
-use Rattle.thread_semantics.specs.State.{ThreadState, first_state}
-use Rattle.thread_semantics.specs.declared.next.Next.TheVariants.{Operation}
-use Rattle.thread_semantics.specs.Step.{next_of, after_reply, closed}
+use Rattle.plain_threads.specs.State.{ThreadState, first_state}
+use Rattle.plain_threads.specs.declared.next.Next.TheVariants.{Operation}
+use Rattle.plain_threads.specs.Step.{next_of, after_reply, closed}
 
 -- the shared objects, the threads by number, and the points that the runner took
 pub record Configuration : Type 0 where

@@ -3,11 +3,11 @@ use Rattle.std.specs.Prelude.{◌≡◌, ℕ, suc, List, [], ◌∷◌, Bool, tr
 use Rattle.lisp_base.specs.declared.id.Actor.TheVariants.{Thread}
 use Rattle.world_semantics.specs.World.{World}
 use Rattle.world_semantics.specs.Effect.{effect_of, reply_of}
-use Rattle.thread_semantics.specs.State.{ThreadState}
-use Rattle.thread_semantics.specs.declared.next.Next.{Next}
-use Rattle.thread_semantics.specs.declared.next.Next.TheVariants.{Local, Operation, Nothing}
-use Rattle.thread_semantics.specs.Step.{next_of}
-use Rattle.run_semantics.specs.Replay.{Configuration}
+use Rattle.plain_threads.specs.State.{ThreadState}
+use Rattle.plain_threads.specs.declared.next.Next.{Next}
+use Rattle.plain_threads.specs.declared.next.Next.TheVariants.{Local, Operation, Nothing}
+use Rattle.plain_threads.specs.Step.{next_of}
+use Rattle.plain_runs.specs.Replay.{Configuration}
 
 -- a local point can always be taken, and an operation where it does not wait
 abbrev pub goes_on : Next → ℕ → World → Bool

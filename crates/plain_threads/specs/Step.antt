@@ -18,10 +18,10 @@ use Rattle.world_semantics.specs.declared.op.Printed.TheVariants.{Print}
 use Rattle.world_semantics.specs.declared.op.Reply.{Reply}
 use Rattle.world_semantics.specs.declared.op.Reply.TheVariants.{Okay, Value, Unbound, Truth}
 use Rattle.world_semantics.specs.declared.phase.Ending.TheVariants.{Returned, Aborted}
-use Rattle.thread_semantics.specs.declared.next.Next.{Next}
-use Rattle.thread_semantics.specs.declared.next.Next.TheVariants.{Local, Operation, Nothing}
-use Rattle.thread_semantics.specs.Acts.{top, result_of}
-use Rattle.thread_semantics.specs.State.{FrameKind, BindFrame, Frame, Target, Base, Control, At, Exit, Ended, ThreadState}
+use Rattle.plain_threads.specs.declared.next.Next.{Next}
+use Rattle.plain_threads.specs.declared.next.Next.TheVariants.{Local, Operation, Nothing}
+use Rattle.plain_threads.specs.Acts.{top, result_of}
+use Rattle.plain_threads.specs.State.{FrameKind, BindFrame, Frame, Target, Base, Control, At, Exit, Ended, ThreadState}
 
 -- A condition that is signalled goes to the first handler in force for it. No form has a handler yet, so the thread
 -- leaves to its base, and is aborted with the condition.

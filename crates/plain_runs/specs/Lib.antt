@@ -9,5 +9,5 @@ pub use Rattle.plain_program.specs.Forms
 pub use Rattle.plain_program.specs.Points
 pub use Rattle.world_semantics.specs.World
 pub use Rattle.world_semantics.specs.Effect
-pub use Rattle.thread_semantics.specs.State
-pub use Rattle.thread_semantics.specs.Step
+pub use Rattle.plain_threads.specs.State
+pub use Rattle.plain_threads.specs.Step

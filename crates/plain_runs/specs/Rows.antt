@@ -18,11 +18,11 @@ use Rattle.world_semantics.specs.declared.op.Reply.TheVariants.{Okay, Value, Tru
 use Rattle.world_semantics.specs.declared.phase.Ending.{Ending}
 use Rattle.world_semantics.specs.declared.phase.Ending.TheVariants.{Returned, Aborted}
 use Rattle.world_semantics.specs.declared.phase.Phase.TheVariants.{Alive, Ended}
-use Rattle.run_semantics.specs.declared.report.FrameWord.TheVariants.{Bind as OpenBind}
-use Rattle.run_semantics.specs.declared.report.OpenForm.{OpenForm}
+use Rattle.plain_runs.specs.declared.report.FrameWord.TheVariants.{Bind as OpenBind}
+use Rattle.plain_runs.specs.declared.report.OpenForm.{OpenForm}
 use Rattle.world_semantics.specs.declared.global.Global.{Global}
-use Rattle.run_semantics.specs.declared.report.PhaseReport.TheVariants.{Ended as IsEnded, OutOfPoints}
-use Rattle.run_semantics.specs.declared.report.Report.{Report}
+use Rattle.plain_runs.specs.declared.report.PhaseReport.TheVariants.{Ended as IsEnded, OutOfPoints}
+use Rattle.plain_runs.specs.declared.report.Report.{Report}
 
 -- an entry of main
 abbrev pub main_does : ℕ → ℕ → Op → Reply → Entry

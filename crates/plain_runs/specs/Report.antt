@@ -2,16 +2,16 @@
 use Rattle.std.specs.Prelude.{ℕ, List, [], ◌∷◌, Bool, true, false, if◌then◌else◌, nat_lt}
 use Rattle.lisp_base.specs.Value.{nil}
 use Rattle.world_semantics.specs.declared.phase.Phase.{Phase}
-use Rattle.thread_semantics.specs.State.{FrameKind, BindFrame, Frame, Control, At, Exit, Ended, ThreadState}
-use Rattle.run_semantics.specs.declared.report.FrameWord.{FrameWord}
-use Rattle.run_semantics.specs.declared.report.FrameWord.TheVariants.{Bind}
-use Rattle.run_semantics.specs.declared.report.OpenForm.{OpenForm}
-use Rattle.run_semantics.specs.declared.report.PhaseReport.{PhaseReport}
-use Rattle.run_semantics.specs.declared.report.PhaseReport.TheVariants.{Ended as IsEnded, OutOfPoints, Runnable}
-use Rattle.run_semantics.specs.declared.report.ThreadReport.{ThreadReport}
-use Rattle.run_semantics.specs.declared.report.ThreadLine.{ThreadLine}
-use Rattle.run_semantics.specs.declared.report.Report.{Report}
-use Rattle.run_semantics.specs.Replay.{Configuration}
+use Rattle.plain_threads.specs.State.{FrameKind, BindFrame, Frame, Control, At, Exit, Ended, ThreadState}
+use Rattle.plain_runs.specs.declared.report.FrameWord.{FrameWord}
+use Rattle.plain_runs.specs.declared.report.FrameWord.TheVariants.{Bind}
+use Rattle.plain_runs.specs.declared.report.OpenForm.{OpenForm}
+use Rattle.plain_runs.specs.declared.report.PhaseReport.{PhaseReport}
+use Rattle.plain_runs.specs.declared.report.PhaseReport.TheVariants.{Ended as IsEnded, OutOfPoints, Runnable}
+use Rattle.plain_runs.specs.declared.report.ThreadReport.{ThreadReport}
+use Rattle.plain_runs.specs.declared.report.ThreadLine.{ThreadLine}
+use Rattle.plain_runs.specs.declared.report.Report.{Report}
+use Rattle.plain_runs.specs.Replay.{Configuration}
 
 -- a thread that has not ended can go on, or is out of points
 abbrev pub unless_out : ℕ → ℕ → PhaseReport

@@ -3,8 +3,8 @@ ghost use Rattle.lisp_base.specs.Value.{nil};
 ghost use Rattle.lisp_base.specs.declared.condition.Class.TheVariants.{IntegerRange};
 ghost use Rattle.lisp_base.specs.declared.value.Node.TheVariants.{Int};
 ghost use Rattle.world_semantics.specs.declared.phase.Ending.TheVariants.{Returned, Aborted};
-ghost use Rattle.run_semantics.specs.Run.{RunsAs};
-ghost use Rattle.run_semantics.specs.Rows.{main_ended, main_out, has_value, printed_sum, printed_sum_journal, no_forms, no_forms_journal, outer_setq, outer_setq_journal, sum_past_range, sum_past_range_journal, sum_past_range_start, open_let};
+ghost use Rattle.plain_runs.specs.Run.{RunsAs};
+ghost use Rattle.plain_runs.specs.Rows.{main_ended, main_out, has_value, printed_sum, printed_sum_journal, no_forms, no_forms_journal, outer_setq, outer_setq_journal, sum_past_range, sum_past_range_journal, sum_past_range_start, open_let};
 
 /// `(print (+ 1 2))` prints 3 at its fourth point and returns it at its fifth.
 pub fn a_printed_sum()
