@@ -1,0 +1,9 @@
+pub mod State
+pub mod Acts
+pub mod Frames
+pub mod Exits
+pub mod Step
+pub mod Next
+pub mod Replies
+pub mod Start
+pub mod Rows
