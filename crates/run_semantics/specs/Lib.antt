@@ -1,0 +1,5 @@
+pub mod Replay
+pub mod Over
+pub mod Report
+pub mod Run
+pub mod Rows
