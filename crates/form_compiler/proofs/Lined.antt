@@ -11,7 +11,7 @@ use Rattle.lisp_code.specs.declared.instr.Instr.TheVariants as i
 use Rattle.form_compiler.specs.declared.mark.Mark.{Mark}
 use Rattle.form_compiler.specs.inside.Marks.{HasNoClauses, HasRow, placed_of}
 use Rattle.form_compiler.specs.inside.Sheets.{HaveRows, most_marked}
-use Rattle.form_compiler.specs.inside.Sound.{AreRowsThere, IsRowThere}
+use Rattle.form_compiler.specs.inside.Sound.{AreRowsThere}
 
 -- a line without clauses is the same with any rows
 light_line : (rows : List (List Clause)) (instr : Instr) → HasNoClauses instr → line_of rows instr ≡ line_of [] instr
@@ -180,25 +180,9 @@ their_heights rows [] = refl
 their_heights rows (m ∷ ms) = ap (λ hs. m.height ∷ hs) (their_heights rows ms)
 
 -- their rows are there
-row_there : (rows : List (List Clause)) (instr : Instr) → HasRow (length rows) instr → IsRowThere rows instr
-row_there rows (i.Do a) h = tt
-row_there rows (i.Call function count) h = tt
-row_there rows (i.Ask q) h = tt
-row_there rows (i.Test q to) h = tt
-row_there rows (i.Branch to) h = tt
-row_there rows (i.LoopTest to) h = tt
-row_there rows (i.Jump to) h = tt
-row_there rows (i.Enter o back) h = tt
-row_there rows (i.EnterProtect cleanup) h = tt
-row_there rows (i.EnterHandler row) h = h
-row_there rows i.Leave h = tt
-row_there rows i.LeaveProtect h = tt
-row_there rows i.LeaveCleanup h = tt
-row_there rows (i.LeaveHandler to) h = tt
-
 rows_there : (rows : List (List Clause)) (ms : List Mark) → HaveRows (length rows) ms → AreRowsThere rows (map (λ (m : Mark). m.instr) ms)
 rows_there rows [] h = tt
-rows_there rows (m ∷ ms) h = (row_there rows m.instr h.0, rows_there rows ms h.1)
+rows_there rows (m ∷ ms) h = (h.0, rows_there rows ms h.1)
 
 pub their_rows : (rows : List (Vec Clause)) (ms : List Mark) → HaveRows (length rows) ms → AreRowsThere (rows_of rows) (map (λ (m : Mark). m.instr) ms)
 their_rows rows ms h = rows_there (rows_of rows) ms (subst (λ n. HaveRows n ms) (sym (length-map rows (λ (v : Vec Clause). v.items))) h)

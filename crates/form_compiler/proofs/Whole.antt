@@ -19,8 +19,9 @@ use Rattle.lisp_code.specs.declared.instr.Instr.{Instr}
 use Rattle.lisp_code.specs.declared.instr.Instr.TheVariants as i
 use Rattle.form_compiler.specs.inside.Fits.{AreFit, Fits, Lifts}
 use Rattle.form_compiler.specs.inside.Gives.{AreGiving}
+use Rattle.form_compiler.specs.inside.Marks.{HasRow}
 use Rattle.form_compiler.specs.inside.Reaches.{AllReach, Reaches}
-use Rattle.form_compiler.specs.inside.Sound.{AreRowsThere, AreSound, IsFineLine, IsLaidOut, IsRowThere, RowsAreThere}
+use Rattle.form_compiler.specs.inside.Sound.{AreRowsThere, AreSound, IsFineLine, IsLaidOut, RowsAreThere}
 use Rattle.form_compiler.proofs.Fine.{at-most, few, fine-end, fine-leave}
 use Rattle.form_compiler.proofs.Fitting.{kind-fits, made-fit}
 use Rattle.form_compiler.proofs.Gives.{kind-gives, made-gives}
@@ -32,7 +33,7 @@ use Rattle.form_compiler.proofs.Sounding.{begins, drop-laid, drop-suc, held, lai
 none-taken : (n : ℕ) → 0 ≤ n
 none-taken n = omega arith
 
-fine-of : (p : Parts) (at h : ℕ) (instr : Instr) → IsFineLine p at h (line_of p.handlers instr) → IsRowThere p.handlers instr → IsFine p at h instr
+fine-of : (p : Parts) (at h : ℕ) (instr : Instr) → IsFineLine p at h (line_of p.handlers instr) → HasRow (length p.handlers) instr → IsFine p at h instr
 fine-of p at h (i.Do a) f r = f
 fine-of p at h (i.Call function count) f r = f
 fine-of p at h (i.Ask q) f r = f

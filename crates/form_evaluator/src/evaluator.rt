@@ -18,9 +18,9 @@ use lisp_base::sequence::Sequence;
 use lisp_base::value::{Node, Value};
 use plain_program::act::{Act, Opening, Question};
 use plain_program::steps::Step;
+use plain_threads::next::Next;
 use std::alloc::Global;
 use std::mem;
-use plain_threads::next::Next;
 use world_semantics::op::{Op, Printed, Reply};
 use world_semantics::phase::Ending;
 

@@ -11,8 +11,8 @@ use lisp_base::memory::Memory;
 use lisp_base::value::{Node, Value};
 use plain_program::act::Question;
 use plain_program::steps::Step;
-use std::alloc::Global;
 use plain_threads::next::Next;
+use std::alloc::Global;
 use world_semantics::op::{Op, Printed, Reply};
 use world_semantics::phase::Ending;
 

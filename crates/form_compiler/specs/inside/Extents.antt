@@ -124,6 +124,7 @@ used_of PassedOver operands parts = operands
 used_of Body operands parts = parts
 used_of InTurn operands parts = parts
 
+-- the same for a row
 abbrev pub used : Row → ℕ → ℕ
 used row parts = used_of row.others row.operands parts
 

@@ -27,13 +27,15 @@ abbrev pub act_instr : List FunctionName → Act → Instr
 act_instr names (CallAct f count) = call_instr (seat_of f names) count
 act_instr names a = Do a
 
--- an act, a question, and a question that goes on at a position where it settles the matter
+-- the line of an act
 abbrev pub act_mark : List FunctionName → Act → ℕ → Holding → Mark
 act_mark names a p h = mark (act_instr names a) p h (held_by a h)
 
+-- the line of a question
 abbrev pub ask_mark : Question → ℕ → Holding → Mark
 ask_mark q p h = mark (Ask q) p h (held_at q h)
 
+-- the line of a question that goes on at a position where it settles the matter
 abbrev pub test_mark : Question → ℕ → ℕ → Holding → Mark
 test_mark q to p h = mark (Test q to) p h (held_at q h)
 

@@ -8,16 +8,12 @@ use Rattle.lisp_code.specs.Validity.{IsFine, Lies, clause_going, most_operands, 
 use Rattle.lisp_code.specs.declared.instr.Clause.{Clause}
 use Rattle.lisp_code.specs.declared.instr.Instr.{Instr}
 use Rattle.lisp_code.specs.declared.instr.Instr.TheVariants as i
+use Rattle.form_compiler.specs.inside.Marks.{HasRow}
 
--- the row of clauses that an instruction names is one of these
-abbrev pub IsRowThere : List (List Clause) → Instr → Type 0
-IsRowThere rows (i.EnterHandler row) = row < length rows
-IsRowThere rows instr = Unit {0}
-
--- so is that of each of these instructions
+-- the row of clauses that each of these instructions names, if it names one, is one of these
 abbrev pub AreRowsThere : List (List Clause) → List Instr → Type 0
 AreRowsThere rows [] = Unit {0}
-AreRowsThere rows (instr ∷ instrs) = IsRowThere rows instr × AreRowsThere rows instrs
+AreRowsThere rows (instr ∷ instrs) = HasRow (length rows) instr × AreRowsThere rows instrs
 
 -- the rows of clauses that the instructions name are there
 abbrev pub RowsAreThere : Parts → Type 0

@@ -55,6 +55,7 @@ way_for (k.Clause class) way = way
 way_for (k.ClauseWith class x) way = way
 way_for kind way = no_way
 
+-- the way of the first form
 abbrev pub first_way : Forms → Way → Way
 first_way NoTrees way = no_way
 first_way (Tree kind p under beside) way = way_for kind way
@@ -91,24 +92,29 @@ wanted (suc n) there pl f = joined (part there pl f) (wanted n (less there) pl (
 
 -- Their lines: a task says what is held before each, and each form gives one value.
 module _ (names : List FunctionName) where
+  -- the lines of points that are no clause
   abbrev pub laid_so : Holding → ℕ → Points → List Placed → List Placed
   laid_so h at points next = laid names no_way h at points next
 
+  -- the lines of n forms as a body
   abbrev pub body_lines : (n place : ℕ) → Holding → (at : ℕ) → Forms → List Placed → List Placed
   body_lines zero pl h at f next = laid_so h at (nil_at pl) next
   body_lines (suc zero) pl h at f next = laid_so h at (first f) next
   body_lines (suc (suc n)) pl h at f next =
       laid_so h at (first f) (placed_of [] (act_mark names act.Discard pl (one_more h)) ∷ body_lines (suc n) pl h (suc (past at (first f))) (others f) next)
 
+  -- the lines of n forms in turn
   abbrev pub all_lines : ℕ → Holding → (at : ℕ) → Forms → List Placed → List Placed
   all_lines zero h at f next = next
   all_lines (suc n) h at f next = laid_so h at (first f) (all_lines n (one_more h) (past at (first f)) (others f) next)
 
+  -- the lines of so many operands, where so many forms are there
   abbrev pub wanted_lines : (n there place : ℕ) → Holding → (at : ℕ) → Forms → List Placed → List Placed
   wanted_lines zero there pl h at f next = next
   wanted_lines (suc n) there pl h at f next =
       laid_so h at (part there pl f) (wanted_lines n (less there) pl (one_more h) (past at (part there pl f)) (part_left there f) next)
 
+  -- the lines of n forms as clauses, which go along this way
   abbrev pub clause_lines : ℕ → Way → Holding → (at : ℕ) → Forms → List Placed → List Placed
   clause_lines zero way h at f next = next
   clause_lines (suc n) way h at f next = laid names (first_way f way) h at (first f) (clause_lines n way h (past at (first f)) (others f) next)
@@ -141,23 +147,28 @@ weight (Write m ∷ ts) = 1 + weight ts
 
 -- tasks in place of a task
 module _ (names : List FunctionName) where
+  -- those of a part: the next form, or NIL
   abbrev pub part_tasks : (there place : ℕ) → Holding → List Task → List Task
   part_tasks zero pl h ts = Write (act_mark names (act.Push nil) pl h) ∷ ts
   part_tasks (suc n) pl h ts = Form h ∷ ts
 
+  -- those of a body: its first form, a line that forgets the value, and the others as a body
   abbrev pub body_tasks : (n place : ℕ) → Holding → List Task → List Task
   body_tasks zero pl h ts = Write (act_mark names (act.Push nil) pl h) ∷ ts
   body_tasks (suc zero) pl h ts = Form h ∷ ts
   body_tasks (suc (suc n)) pl h ts = Form h ∷ (Write (act_mark names act.Discard pl (one_more h)) ∷ (Body (suc n) pl h ∷ ts))
 
+-- those of forms in turn: the first, and the others with one operand more
 abbrev pub all_tasks : ℕ → Holding → List Task → List Task
 all_tasks zero h ts = ts
 all_tasks (suc n) h ts = Form h ∷ (AllTask n (one_more h) ∷ ts)
 
+-- those of operands: the first, and the others; where none is wanted, the forms that are there are passed over
 abbrev pub operand_tasks : (wanted there place : ℕ) → Holding → List Task → List Task
 operand_tasks zero there pl h ts = Skip there ∷ ts
 operand_tasks (suc n) there pl h ts = Part there pl h ∷ (Operands n (less there) pl (one_more h) ∷ ts)
 
+-- those of clauses: the first, and the others
 abbrev pub clause_tasks : (n to place : ℕ) → Holding → List Task → List Task
 clause_tasks zero to pl h ts = ts
 clause_tasks (suc n) to pl h ts = ClauseTask h to pl ∷ (Clauses n to pl h ∷ ts)
@@ -177,23 +188,27 @@ pub record Site : Type 0 where
 abbrev pub full : ℕ → Site → Holding
 full n s = with_more n s.holding
 
--- one operation of a service, and one that goes on at a position where it settles the matter
+-- one operation of a service
 abbrev pub asked : Service → Step → ℕ → Holding → Task
 asked s t p h = Write (ask_mark (question.Serve s t) p h)
 
+-- one that goes on at a position where it settles the matter
 abbrev pub tried : Service → Step → (to p : ℕ) → Holding → Task
 tried s t to p h = Write (test_mark (question.Serve s t) to p h)
 
--- the tasks of a service after its operands, which ends at this position
+-- a try, the clock's reading, and the operation, for a service that ends at this position
 abbrev pub tried_tasks : Service → (p end : ℕ) → Holding → List Task → List Task
 tried_tasks s p end h ts = tried s step.Try end p h ∷ (asked s step.Clock p h ∷ (asked s step.Main p h ∷ ts))
 
+-- the clock's reading, and then the operation
 abbrev pub timed_tasks : Service → ℕ → Holding → List Task → List Task
 timed_tasks s p h ts = asked s step.Clock p h ∷ (asked s step.Main p h ∷ ts)
 
+-- a wait to be notified, and then one for the mutex
 abbrev pub woken_tasks : Service → (p end : ℕ) → Holding → List Task → List Task
 woken_tasks s p end h ts = tried s step.Wake end p h ∷ (asked s step.Regrab p h ∷ ts)
 
+-- the tasks of each service after its operands, which ends at this position
 abbrev pub service_tasks : Service → (p end : ℕ) → Holding → List Task → List Task
 service_tasks (service.JoinThread default true) p end h ts = tried_tasks (service.JoinThread default true) p end h ts
 service_tasks (service.GrabMutex waitp true) p end h ts = tried_tasks (service.GrabMutex waitp true) p end h ts
@@ -208,10 +223,11 @@ service_tasks service.Sleep p end h ts = timed_tasks service.Sleep p h ts
 service_tasks (service.ScheduleTimer repeat catch_up) p end h ts = timed_tasks (service.ScheduleTimer repeat catch_up) p h ts
 service_tasks s p end h ts = asked s step.Main p h ∷ ts
 
--- a frame that an opening opens, and what it is left by
+-- the line that opens a frame
 abbrev pub enter : Opening → Site → Holding → Task
 enter o s h = Write (mark (i.Enter o s.end) s.place h (held_in o h))
 
+-- what the frame is left by
 abbrev pub leave : Opening → Site → Holding → Task
 leave o s h = Write (mark i.Leave s.place (one_more (outside o h)) (total (outside o h)))
 
@@ -233,6 +249,7 @@ framed o n s h ts = enter o s h ∷ (Body n s.place (inside o h) ∷ (leave o s 
 abbrev pub onward : Site → Task
 onward s = Write (mark (i.Jump s.way.to) s.way.place (one_more s.holding) (total s.holding))
 
+-- an `if`: its test, a branch, the first form, a jump to the end, the second form; others are passed over
 abbrev pub choosing : Site → List Task → List Task
 choosing s ts =
     Part s.forms s.place s.holding
@@ -241,6 +258,7 @@ choosing s ts =
     ∷ (Write (mark (i.Jump s.end) s.place (one_more s.holding) (total s.holding))
     ∷ (Part (less (less s.forms)) s.place s.holding ∷ (Skip (less (less (less s.forms))) ∷ ts)))))
 
+-- a loop: its test, a line that judges it, the body, a line that forgets its value, and a jump back
 abbrev pub looping : Site → List Task → List Task
 looping s ts =
     Part s.forms s.place s.holding
@@ -249,6 +267,7 @@ looping s ts =
     ∷ (Write (mark (i.Do act.Discard) s.place (one_more s.holding) (total s.holding))
     ∷ (Write (mark (i.Jump s.at) s.place s.holding (total s.holding)) ∷ ts))))
 
+-- an `unwind-protect`: the line that opens its frame, the form, the line that turns the frame, the cleanup, and the line that leaves it
 abbrev pub protecting : Site → List Task → List Task
 protecting s ts =
     Write (mark (i.EnterProtect s.second) s.place s.holding (total s.holding))
