@@ -19,3 +19,5 @@ mod printing;
 mod steps;
 #[cfg(test)]
 mod words;
+#[cfg(test)]
+mod world;

@@ -1,5 +1,5 @@
 -- What an operation does to the shared objects.
-use Rattle.std.specs.Prelude.{ℕ, List, [], ◌∷◌, ◌++◌, Option, Some, None, slice_get, slice_set, is_some}
+use Rattle.std.specs.Prelude.{ℕ, List, Option, Some, None, slice_get, slice_set, is_some}
 use Rattle.lisp_base.specs.declared.id.Actor.{Actor}
 use Rattle.lisp_base.specs.declared.id.Actor.TheVariants.{Thread, Runner}
 use Rattle.lisp_base.specs.declared.value.Node.{Node}
@@ -17,11 +17,15 @@ pub data Outcome : Type 0 where
   Answers : (reply : Reply) (after : World) → Outcome
   Waits : Outcome
 
--- the phases after thread t has ended so; only a thread that is alive ends
+-- the phase of a thread after its `finish`: only one that is alive ends
+abbrev pub phase_after : Ending → Phase → Phase
+phase_after ending Alive = Ended ending
+phase_after ending (Ended before) = Ended before
+
+-- the phases after thread t has ended so
 abbrev pub ended_from : Option Phase → ℕ → Ending → List Phase → List Phase
 ended_from None t ending phases = phases
-ended_from (Some Alive) t ending phases = slice_set phases t (Ended ending)
-ended_from (Some (Ended before)) t ending phases = phases
+ended_from (Some phase) t ending phases = slice_set phases t (phase_after ending phase)
 
 -- the phases after an actor's `finish`; the runner is no thread
 abbrev pub phases_after : Actor → Ending → List Phase → List Phase
@@ -41,8 +45,8 @@ effect_of (Get s) by w = Answers (value_reply (global_of s w.globals)) w
 effect_of (Set s v) by w = Answers Okay (record w { globals = with_global s v w.globals })
 -- `boundp` says whether there is a global value
 effect_of (Boundp s) by w = Answers (Truth (is_some (global_of s w.globals))) w
--- `out` adds what is printed to the end of the output
-effect_of (Out printed) by w = Answers Okay (record w { output = w.output ++ printed ∷ [] })
+-- `out` prints, and changes no object
+effect_of (Out printed) by w = Answers Okay w
 -- `finish` ends the thread that does it
 effect_of (Finish ending) by w = Answers Okay (record w { phases = phases_after by ending w.phases })
 
