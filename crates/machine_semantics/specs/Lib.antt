@@ -1,0 +1,4 @@
+pub mod Machine
+pub mod Links
+pub mod Ran
+pub mod Answered
