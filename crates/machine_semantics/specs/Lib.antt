@@ -2,3 +2,4 @@ pub mod Machine
 pub mod Links
 pub mod Ran
 pub mod Answered
+pub mod Relation
