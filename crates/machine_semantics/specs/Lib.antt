@@ -1,0 +1,5 @@
+pub mod Machine
+pub mod Links
+pub mod Ran
+pub mod Answered
+pub mod Relation
