@@ -1,5 +1,5 @@
 -- Frames of the machine: opened, left with a value, and left by an exit.
-use Rattle.std.specs.Prelude.{ℕ, zero, suc, ◌+◌, ◌-◌, List, [], ◌∷◌, Bool, true, false, Option, Some, None, ◌==◌, if◌then◌else◌, nat_lt, length, take, drop, get_or, set}
+use Rattle.std.specs.Prelude.{ℕ, zero, suc, ◌+◌, ◌-◌, List, [], ◌∷◌, Bool, Option, Some, None, ◌==◌, if◌then◌else◌, nat_lt, length, take, drop, get_or, set}
 use Rattle.lisp_base.specs.declared.condition.Class.{Class}
 use Rattle.lisp_base.specs.declared.condition.Class.TheVariants.{ControlError}
 use Rattle.lisp_base.specs.declared.condition.Condition.{Condition}

@@ -1,5 +1,5 @@
 -- The machine after one line.
-use Rattle.std.specs.Prelude.{ℕ, suc, ◌-◌, ◌++◌, List, ◌∷◌, Bool, true, false, Option, Some, None, Result, Ok, Err, ◌==◌, if◌then◌else◌, length, map, reverse, slice_get, take, drop, unwrap_or}
+use Rattle.std.specs.Prelude.{ℕ, suc, ◌++◌, List, ◌∷◌, Bool, true, false, Option, Some, None, Result, Ok, Err, ◌==◌, if◌then◌else◌, length, map, reverse, slice_get, take, drop, unwrap_or}
 use Rattle.lisp_base.specs.declared.condition.Class.{Class}
 use Rattle.lisp_base.specs.declared.condition.Class.TheVariants.{ProgramError, StorageCondition, TypeError, UndefinedFunction}
 use Rattle.lisp_base.specs.declared.value.Node.{Node}
