@@ -1,4 +1,4 @@
--- Operands that lie on others, and variables that lie behind others.
+-- Operands that lie on others, and variables that come after others.
 use Rattle.std.proofs.Common.{◌≡◌, ℕ, zero, suc, ◌+◌, ◌-◌, ◌<◌, ◌≤◌, List, [], ◌∷◌, ◌++◌, length, take, drop, get_or, set, refl, ap, sym, ◌∙◌, append_assoc, length-append, arith}
 use Rattle.std.proofs.lemmas.List.{drop_at, take-append-le, drop-append-le, get_or-append-add, take_at, length-drop, length-take-le}
 use Rattle.lisp_base.specs.declared.word.Operand.{Operand}
@@ -48,7 +48,7 @@ set_padded (suc n) zero v (y ∷ vs) h = refl
 set_padded (suc n) (suc x) v [] h = ap (λ l. nil_operand ∷ l) (set_padded n x v [] (omega (arith, h)))
 set_padded (suc n) (suc x) v (y ∷ vs) h = ap (λ l. y ∷ l) (set_padded n x v vs (omega (arith, h)))
 
--- a variable behind others
+-- a variable after others
 pub get_low : (low xs : List Operand) (x : ℕ) → get_or (low ++ xs) (length low + x) nil_operand ≡ get_or xs x nil_operand
 get_low low xs x = get_or-append-add low xs x nil_operand
 
@@ -59,7 +59,7 @@ zero_add x = omega arith
 suc_add : (n x : ℕ) → suc n + x ≡ suc (n + x)
 suc_add n x = omega arith
 
--- a variable behind others is written
+-- a variable after others is written
 pub set_low : (low xs : List Operand) (x : ℕ) (y : Operand) → set (low ++ xs) (length low + x) y ≡ low ++ set xs x y
 set_low [] xs x y = rw (zero_add x) refl
 set_low (l ∷ low) xs x y = rw (suc_add (length low) x) (ap (λ k. l ∷ k) (set_low low xs x y))

@@ -8,7 +8,7 @@ use Rattle.thread_semantics.specs.State.{at}
 use Rattle.machine_semantics.specs.Machine.{Code, Running}
 use Rattle.machine_semantics.specs.Relation.{Controls, IsBegun, Jumped, Lies, Runs, asks, chooses, does, done, enters, handles, here, jump, loops, protects, running, tests, turns}
 
--- jumps in front
+-- jumps come first
 pub jumped_both : {code : Code} {p q r : ℕ} → Jumped code p q → Jumped code q r → Jumped code p r
 jumped_both here k = k
 jumped_both (jump pl h j) k = jump pl h (jumped_both j k)
@@ -25,7 +25,7 @@ comes j (enters k h t i b r v l) = enters (jumped_both j k) h t i b r v l
 comes j (protects k h b r v c r' v' l) = protects (jumped_both j k) h b r v c r' v' l
 comes j (handles k h b r v c l) = handles (jumped_both j k) h b r v c l
 
--- points behind points
+-- points after points
 pub joins : {code : Code} {room n p m mid n' e : ℕ} {ps after : Points} → Lies code room n p ps m mid → Lies code room m mid after n' e → Lies code room n p (joined ps after) n' e
 joins (done j) k = comes j k
 joins (does j h t i l) k = does j h t i (joins l k)

@@ -121,7 +121,7 @@ abbrev pub taken_up : Kept → (next : ℕ) → Link → List Link → Machine �
 taken_up (KeptValue v) next l ls m = handed next v l ls m
 taken_up (KeptExit target) next l ls m = record m { doing = Leaving target; operands = lowered l.height m.operands; chain = ls }
 
--- What leaving a frame with a value does, by its kind, at a line behind which this position comes next. A call goes on where its caller
+-- What leaving a frame with a value does, by its kind, at a line after which this position comes next. A call goes on where its caller
 -- does. The value of a cleanup is forgotten.
 abbrev pub closed_by : LinkKind → (next : ℕ) → Operand → Link → List Link → Machine → Machine
 closed_by (CallLink back base) next v l ls m = handed back v l ls m

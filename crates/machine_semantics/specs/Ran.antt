@@ -31,7 +31,7 @@ abbrev pub applied_at : Result Node Class → (position : ℕ) → List Operand 
 applied_at (Ok v) position operands m = runs_at position (Value v ∷ operands) m
 applied_at (Err class) position operands m = raises_class class m
 
--- Where there is room, a call opens its frame. Its variables stand behind those of the caller, and its arguments are the first.
+-- Where there is room, a call opens its frame. Its variables come after those of the caller, and its arguments are the first.
 abbrev pub call_begun : Bool → (count place back : ℕ) → FunctionCode → Machine → Machine
 call_begun false count place back f m = raises_class StorageCondition m
 call_begun true count place back f m =
@@ -51,7 +51,7 @@ abbrev pub thrown : Bool → (tag value : Operand) → Machine → Machine
 thrown false tag value m = raises_class TypeError m
 thrown true tag value m = heads_to (sought (is_catch tag) m.chain) value m
 
--- what the line of each act does, with the position behind it; that of a call stands only where there is no such function
+-- what the line of each act does, with the position after it; that of a call stands only where there is no such function
 abbrev pub act_done : Act → (next : ℕ) → Machine → Machine
 act_done (Push v) next m = runs_at next (Value v ∷ m.operands) m
 act_done (PushFunction f) next m = runs_at next (FunctionOperand f ∷ m.operands) m

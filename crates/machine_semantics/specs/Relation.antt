@@ -47,7 +47,7 @@ with_one false n = n
 with_one true n = suc n
 
 -- Where so many variables have room in a call and so many values lie in the innermost frame, these points lie in the code from this
--- position on. At their end so many values lie there, and the position is this one. Jumps may stand in front of each line.
+-- position on. At their end so many values lie there, and the position is this one. Jumps may stand before each line.
 mutual
   pub data Lies (code : Code) (room : ℕ) : (values from : ℕ) → Points → (left to : ℕ) → Type 0 where
     -- nothing more
@@ -72,11 +72,11 @@ mutual
     -- a loop's test, and then its turn
     loops : {n m p mid n' e place : ℕ} {test body after : Points} → m ≡ suc n → Lies code room n p test m mid
         → Lies code room m mid (Turn place test body after) n' e → Lies code room n p (Loop place test body after) n' e
-    -- the line that takes the value of the test; behind the body its value is forgotten, and the test comes again
+    -- the line that takes the value of the test; after the body its value is forgotten, and the test comes again
     turns : {n base p q to start r z n' e place : ℕ} {test body after : Points} → Jumped code p q → HasLine code q (LoopTests to) place → n ≡ suc base
         → Lies code room base start test n q → Lies code room base (suc q) body n r → Jumped code r z → HasLine code z (Does Discard) place
         → Jumped code (suc z) start → Lies code room n to after n' e → Lies code room n p (Turn place test body after) n' e
-    -- the line that opens a frame, the body, and the line that leaves it, behind which an exit goes on
+    -- the line that opens a frame, the body, and the line that leaves it, after which an exit goes on
     enters : {n p q r z n' e place : ℕ} {opening : Opening} {body after : Points} → Jumped code p q → HasLine code q (Enters opening (suc z)) place
         → opening_takes opening ≤ n → IsOpeningIn room opening
         → Lies code room (opening_leaves opening) (suc q) body 1 r → Jumped code r z → HasLine code z Leaves place
@@ -178,7 +178,7 @@ pub record Stands (setting : Setting) (code : Code) (s : ThreadState) (m : Machi
   pub control : Controls code room (beneath s.frames) end s.control m.doing m.operands
   pub rest : Rest setting code room end s m
 
--- one point: a line, behind jumps, or the point of an exit
+-- one point: a line, after jumps, or the point of an exit
 pub data Steps (code : Code) (m : Machine) : Machine → Type 0 where
   runs : {p q place : ℕ} {line : Line} → m.doing ≡ Running p → Jumped code p q → HasLine code q line place
       → Steps code m (record (ran code line place q m) { points = suc m.points })
