@@ -5,18 +5,27 @@ use lisp_base::value::Value;
 use shared_world::thread::{Ending, Phase};
 use shared_world::world::{Actor, Op, Outcome, Reply, World};
 
+/// Does an operation of main.
+fn by_main(world: &mut World, op: &Op) -> Outcome {
+    world.do_op(Actor::Thread(ThreadId::main()), op)
+}
+
 #[test]
 fn operations_are_done(rt: HostRuntime) -> Result<(), Memory> {
     let mut world = World::new(rt.alloc(), &[SymbolId(5), SymbolId(6)])?;
-    let main = Actor::Thread(ThreadId::main());
-    let seven = Value::symbol(SymbolId(7));
-    let unbound = world.do_op(main, &Op::Get(SymbolId(6)));
+    let unbound = by_main(&mut world, &Op::Get(SymbolId(6)));
     assert_eq!(rt; unbound, Outcome::Done(Reply::Unbound));
-    let written = world.do_op(main, &Op::Set(SymbolId(6), seven));
+    let written = by_main(
+        &mut world,
+        &Op::Set(SymbolId(6), Value::symbol(SymbolId(7))),
+    );
     assert_eq!(rt; written, Outcome::Done(Reply::Okay));
-    let found = world.do_op(main, &Op::Get(SymbolId(6)));
-    assert_eq!(rt; found, Outcome::Done(Reply::Value(seven)));
-    let other = world.do_op(main, &Op::Boundp(SymbolId(5)));
+    let found = by_main(&mut world, &Op::Get(SymbolId(6)));
+    assert_eq!(rt;
+        found,
+        Outcome::Done(Reply::Value(Value::symbol(SymbolId(7))))
+    );
+    let other = by_main(&mut world, &Op::Boundp(SymbolId(5)));
     assert_eq!(rt; other, Outcome::Done(Reply::Truth(false)));
     assert!(rt; world.global(SymbolId(6)).is_some());
     assert!(rt; world.global(SymbolId(5)).is_none());
@@ -27,14 +36,15 @@ fn operations_are_done(rt: HostRuntime) -> Result<(), Memory> {
 #[test]
 fn a_thread_ends_once(rt: HostRuntime) -> Result<(), Memory> {
     let mut world = World::new(rt.alloc(), &[])?;
-    let main = Actor::Thread(ThreadId::main());
-    let ended = Ending::Returned(Value::nil());
-    let finished = world.do_op(main, &Op::Finish(ended));
+    let finished = by_main(&mut world, &Op::Finish(Ending::Returned(Value::nil())));
     assert_eq!(rt; finished, Outcome::Done(Reply::Okay));
-    let again = world.do_op(main, &Op::Finish(Ending::Aborted(None)));
+    let again = by_main(&mut world, &Op::Finish(Ending::Aborted(None)));
     assert_eq!(rt; again, Outcome::Done(Reply::Okay));
-    let phase = world.thread(ThreadId::main()).map(|record| record.phase());
-    assert_eq!(rt; phase, Some(Phase::Ended(ended)));
+    let record = world.thread(ThreadId::main()).expect(&rt, "main was made");
+    assert_eq!(rt;
+        record.phase(),
+        Phase::Ended(Ending::Returned(Value::nil()))
+    );
     let first = ThreadId::new(1).expect(&rt, "1 is the number of a thread");
     assert!(rt; world.thread(first).is_none());
     Ok(())
